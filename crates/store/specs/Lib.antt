@@ -1,0 +1,5 @@
+pub mod Meaning
+pub mod Core
+pub mod Lent
+pub mod Plain
+pub mod Packed
