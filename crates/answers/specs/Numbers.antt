@@ -2,12 +2,15 @@
 use Prim.Native.Nat.{ℕ}
 use Rattle.answers.specs.declared.cause.Cause.{Cause}
 use Rattle.answers.specs.declared.cause.Cause.the-variants.{Unmapped, Protected, Beyond}
+use Rattle.answers.specs.declared.fault.Fault.{Fault}
 use Rattle.answers.specs.declared.layer.Layer.{Layer}
 use Rattle.answers.specs.declared.layer.Layer.the-variants as layers
 use Rattle.answers.specs.declared.code.Code.{Code}
 use Rattle.answers.specs.declared.code.Code.the-variants as codes
 use Rattle.answers.specs.declared.refusal.Refusal.{Refusal}
 use Rattle.answers.specs.declared.refusal.Refusal.the-variants as refusals
+use Rattle.std.specs.declared.option.Option.{Option}
+use Rattle.std.specs.declared.option.Option.the-variants.{None, Some}
 
 -- 3 no page there, 4 no write taken, 5 no such address
 abbrev pub cause-number : Cause → ℕ
@@ -48,3 +51,21 @@ refusal-number refusals.ImageShort = 12
 refusal-number refusals.ImageMark = 13
 refusal-number refusals.ImageVersion = 14
 refusal-number refusals.ImageLength = 15
+
+-- the fault behind a refusal: only a core fault has one
+abbrev pub refusal-fault : Refusal → Option Fault
+refusal-fault refusals.Group = None
+refusal-fault refusals.Length = None
+refusal-fault refusals.Keys = None
+refusal-fault refusals.Stopped = None
+refusal-fault refusals.Value = None
+refusal-fault refusals.Entry = None
+refusal-fault refusals.Descriptor = None
+refusal-fault (refusals.Core f) = Some f
+refusal-fault refusals.Word = None
+refusal-fault refusals.Range = None
+refusal-fault refusals.Ranges = None
+refusal-fault refusals.ImageShort = None
+refusal-fault refusals.ImageMark = None
+refusal-fault refusals.ImageVersion = None
+refusal-fault refusals.ImageLength = None

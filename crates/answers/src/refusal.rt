@@ -1,6 +1,6 @@
 ghost use mathlib.Core.Path.{_≡_};
 ghost use Rattle.answers.specs.Names.{refusal-name};
-ghost use Rattle.answers.specs.Numbers.{refusal-number};
+ghost use Rattle.answers.specs.Numbers.{refusal-fault, refusal-number};
 ghost use Rattle.std.specs.declared.option.Option.the-variants.{Some};
 use crate::fault::Fault;
 use crate::fault::FaultDebug;
@@ -62,6 +62,16 @@ impl Refusal {
             Refusal::ImageMark => 13,
             Refusal::ImageVersion => 14,
             Refusal::ImageLength => 15,
+        }
+    }
+
+    // The fault behind a refusal that has one.
+    pub fn fault(self) -> Option<Fault>
+        ensures { λ r. ⌜ r ≡ refusal-fault self ⌝ }
+    {
+        match self {
+            Refusal::Core(fault) => Some(fault),
+            _ => None,
         }
     }
 
