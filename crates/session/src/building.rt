@@ -1,0 +1,46 @@
+ghost use mathlib.Core.Path.{_≡_};
+ghost use Rattle.session.specs.Built.{added, built, may-add, nothing, raw, with-image};
+ghost use Rattle.std.specs.Of.Vec.{vec-items};
+use crate::memory::Memory;
+use crate::memory::Pile;
+use crate::misplaced::Misplaced;
+use std::mem;
+
+impl Pile {
+    pub fn new() -> Pile
+        ensures { λ r. ⌜ built r ≡ nothing ⌝ }
+    {
+        Pile::Nothing
+    }
+
+    // One core more, or a refusal of the third.
+    pub fn add(&mut self, memory: Memory) -> Result<(), Misplaced>
+        ensures answer { λ r. ⌜ r ≡ may-add (built (now (self .entry))) ⌝ }
+        ensures after { λ _. ⌜ built (now (self .exit)) ≡ added (built (now (self .entry))) (raw memory) ⌝ }
+    {
+        match mem::replace(self, Pile::Nothing) {
+            Pile::Nothing | Pile::Image(_) => {
+                *self = Pile::One(memory);
+                Ok(())
+            }
+            Pile::One(first) => {
+                *self = Pile::Two(first, memory);
+                Ok(())
+            }
+            Pile::Two(first, second) => {
+                *self = Pile::Two(first, second);
+                Err(Misplaced::TwoCores)
+            }
+        }
+    }
+
+    // The words of an accepted image, kept until a core is built.
+    pub fn keep_image(&mut self, words: Vec<u8>)
+        ensures { λ _. ⌜ built (now (self .exit)) ≡ with-image (built (now (self .entry))) (vec-items words) ⌝ }
+    {
+        match self {
+            Pile::Nothing | Pile::Image(_) => *self = Pile::Image(words),
+            Pile::One(_) | Pile::Two(_, _) => {}
+        }
+    }
+}
