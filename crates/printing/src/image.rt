@@ -25,7 +25,11 @@ pub impl fmt::Display for ConsoleImage as ConsoleImageDisplay {
     fn fmt<W: fmt::Write>(&self, f: &mut fmt::Formatter<W>) -> fmt::Result {
         let length = self.length;
         let words = self.words;
-        write!(f, "image: keys {}, turn length {length}, words {words}", OctalKeys(self.keys))
+        write!(
+            f,
+            "image: keys {}, turn length {length}, words {words}",
+            OctalKeys(self.keys)
+        )
     }
 }
 

@@ -4,6 +4,7 @@ pub mod image;
 pub mod octal;
 pub mod refused;
 pub mod word;
+
 pub use octal::OctalAddress;
 pub use octal::OctalAddressDisplay;
 pub use octal::OctalWord;

@@ -38,9 +38,25 @@ pub impl fmt::Display for OctalAddress as OctalAddressDisplay {
     fn fmt<W: fmt::Write>(&self, f: &mut fmt::Formatter<W>) -> fmt::Result {
         let n = self.0;
         if n < 0o1_000_000 {
-            write!(f, "{}{}{}{}{}{}", digit(n, 5), digit(n, 4), digit(n, 3), digit(n, 2), digit(n, 1), digit(n, 0))
+            write!(
+                f,
+                "{}{}{}{}{}{}",
+                digit(n, 5),
+                digit(n, 4),
+                digit(n, 3),
+                digit(n, 2),
+                digit(n, 1),
+                digit(n, 0)
+            )
         } else {
-            write!(f, "{}{}{}{}", digit(n, 10), digit(n, 9), digit(n, 8), OctalWord(n))
+            write!(
+                f,
+                "{}{}{}{}",
+                digit(n, 10),
+                digit(n, 9),
+                digit(n, 8),
+                OctalWord(n)
+            )
         }
     }
 }

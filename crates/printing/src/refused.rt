@@ -20,7 +20,11 @@ pub impl fmt::Display for ConsoleFault as ConsoleFaultDisplay {
     ghost shown = { λ x. Some (console-fault (x .0)) };
 
     fn fmt<W: fmt::Write>(&self, f: &mut fmt::Formatter<W>) -> fmt::Result {
-        let Fault { cause, layer, address } = self.0;
+        let Fault {
+            cause,
+            layer,
+            address,
+        } = self.0;
         write!(
             f,
             "fault {} ({cause}), layer {} ({layer}), address {}",
@@ -66,8 +70,17 @@ pub impl fmt::Display for PlainRefused as PlainRefusedDisplay {
         let number = self.refusal.number();
         match self.refusal.fault() {
             Some(fault) => {
-                let Fault { cause, layer, address } = fault;
-                write!(f, "{call} refused {number} {} {} {address}", cause.number(), layer.number())
+                let Fault {
+                    cause,
+                    layer,
+                    address,
+                } = fault;
+                write!(
+                    f,
+                    "{call} refused {number} {} {} {address}",
+                    cause.number(),
+                    layer.number()
+                )
             }
             None => write!(f, "{call} refused {number}"),
         }

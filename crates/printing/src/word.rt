@@ -31,6 +31,11 @@ pub impl fmt::Display for ConsoleWord as ConsoleWordDisplay {
     ghost shown = { λ x. Some (console-word (x .address) (x .word)) };
 
     fn fmt<W: fmt::Write>(&self, f: &mut fmt::Formatter<W>) -> fmt::Result {
-        write!(f, "{}  {}", OctalAddress(self.address), OctalWord(self.word))
+        write!(
+            f,
+            "{}  {}",
+            OctalAddress(self.address),
+            OctalWord(self.word)
+        )
     }
 }

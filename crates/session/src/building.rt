@@ -1,5 +1,5 @@
 ghost use mathlib.Core.Path.{_≡_};
-ghost use Rattle.session.specs.Built.{added, built, may-add, nothing, raw, with-image};
+ghost use Rattle.session.specs.Built.{added, built, may-add, raw, with-image};
 ghost use Rattle.std.specs.Of.Vec.{vec-items};
 use crate::memory::Memory;
 use crate::memory::Pile;
@@ -7,12 +7,6 @@ use crate::misplaced::Misplaced;
 use std::mem;
 
 impl Pile {
-    pub fn new() -> Pile
-        ensures { λ r. ⌜ built r ≡ nothing ⌝ }
-    {
-        Pile::Nothing
-    }
-
     // One core more, or a refusal of the third.
     pub fn add(&mut self, memory: Memory) -> Result<(), Misplaced>
         ensures answer { λ r. ⌜ r ≡ may-add (built (now (self .entry))) ⌝ }

@@ -17,7 +17,11 @@ fn overlay<T: Copy>(memory: &mut [T], place: usize, contents: &[T]) -> Result<()
     Ok(())
 }
 
-pub(crate) fn overlay_vec<T: Copy>(memory: &mut Vec<T>, place: usize, contents: &[T]) -> Result<(), Misplaced>
+pub(crate) fn overlay_vec<T: Copy>(
+    memory: &mut Vec<T>,
+    place: usize,
+    contents: &[T],
+) -> Result<(), Misplaced>
     ensures answer { λ r. ⌜ r ≡ allowed (fits (vec-items (now (memory .entry))) place (now (contents .entry))) ⌝ }
     ensures after { λ r. ⌜ vec-items (now (memory .exit)) ≡ cond (fits (vec-items (now (memory .entry))) place (now (contents .entry))) (overlaid (vec-items (now (memory .entry))) place (now (contents .entry))) (vec-items (now (memory .entry))) ⌝ }
 {

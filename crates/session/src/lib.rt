@@ -6,6 +6,7 @@ pub mod making;
 pub mod memory;
 pub mod misplaced;
 pub mod reading;
+
 pub use memory::Memory;
 pub use memory::Pile;
 pub use misplaced::Misplaced;

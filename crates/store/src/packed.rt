@@ -42,26 +42,21 @@ pub impl Store for Packed<'_> as PackedStore {
     }
 
     fn read(&self, address: u32) -> Result<u32, Fault> {
-        if address >= self.size() {
-            return Err(Fault {
-                cause: Cause::Beyond,
-                layer: Self::LAYER,
-                address,
-            });
-        }
+        self.ask(address)?;
         let i = 3 * address as usize;
         Ok(self.bytes[i] as u32 * 65536 + self.bytes[i + 1] as u32 * 256 + self.bytes[i + 2] as u32)
     }
 
     fn ask(&self, address: u32) -> Result<(), Fault> {
-        if address >= self.size() {
-            return Err(Fault {
+        if address < self.size() {
+            Ok(())
+        } else {
+            Err(Fault {
                 cause: Cause::Beyond,
                 layer: Self::LAYER,
                 address,
-            });
+            })
         }
-        Ok(())
     }
 
     fn write(&mut self, address: u32, value: u32) -> Result<(), Fault> {

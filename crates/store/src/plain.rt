@@ -42,15 +42,8 @@ pub impl Store for Plain<'_> as PlainStore {
     }
 
     fn read(&self, address: u32) -> Result<u32, Fault> {
-        if address < self.size() {
-            Ok(self.words[address as usize] % 0x100_0000)
-        } else {
-            Err(Fault {
-                cause: Cause::Beyond,
-                layer: Self::LAYER,
-                address,
-            })
-        }
+        self.ask(address)?;
+        Ok(self.words[address as usize] % 0x100_0000)
     }
 
     fn ask(&self, address: u32) -> Result<(), Fault> {

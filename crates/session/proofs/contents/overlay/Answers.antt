@@ -16,4 +16,5 @@ returns g c =
     record {
       answer = rw h;
       after = rw (h, c .copy-from-slice .ensures .after)
-        (ap (λ (rest : List (g .T .Denot)). take place memory ++ (contents ++ rest)) (post-is place (place + length contents) memory (omega arith))) }
+          (ap (λ (rest : List (g .T .Denot)). take place memory ++ (contents ++ rest)) (post-is place (place + length contents) memory (omega arith)));
+    }

@@ -1,0 +1,4 @@
+mod Exact
+mod Laws
+mod Moves
+pub mod Same
