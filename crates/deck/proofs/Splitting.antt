@@ -1,6 +1,6 @@
 -- The steps of splitting a line into words.
 use mathlib.Core.Path.{_≡_, refl, sym, ap, subst, _∙_}
-use mathlib.Core.Bool.{Bool, true, false, cond}
+use mathlib.Core.Bool.{true, false, cond}
 use mathlib.Core.List.{List, [], _∷_, _++_, append-nil, append-assoc}
 use Prim.Native.Nat.{ℕ, _+_, _-_, _<_, _≤_}
 use mathlib.Core.Logic.{⊎-elim}
@@ -44,7 +44,7 @@ word-ends (x ∷ w) (b ∷ rest) h t = rw (t (omega arith))
 -- a text that begins with no blank begins with a word
 begun : (rest : List ℕ) (n : ℕ) → 0 < length rest → blank (getD rest 0 0) ≡ false → (n < length rest → blank (getD rest n 0) ≡ true) → 0 < n
 begun rest n h f t =
-    ⊎-elim (λ p. p) (λ z. let e : n ≡ 0 = omega arith in absurd (both-ways (blank (getD rest 0 0)) f (subst (λ m. blank (getD rest m 0) ≡ true) e (t (omega arith))))) (order 0 n)
+    ⊎-elim (λ p. p) (λ z. let e : n ≡ 0 = omega arith in absurd (both-ways (blank (getD rest 0 0)) f (subst (λ m. blank (getD rest m 0) ≡ true) e (t (omega arith))))) (order (0) n)
 
 module _ (text rest : List ℕ) (start : ℕ) (is : rest ≡ drop start text) (same : separated (drop start text) ≡ separated text) where
   pub no-word : length rest ≡ 0 → separated text ≡ []

@@ -12,13 +12,16 @@ use crate::problem::ProblemFromAlloc;
 use crate::problem::ProblemFromRefused;
 use std::alloc::Global;
 
+// The largest byte.
+const LARGEST: u32 = 255;
+
 // Numbers as bytes.
 fn bytes_of(heap: Global, numbers: &[u32]) -> Result<Vec<u8>, Problem>
     ensures { λ r. ⌜ Means r vec-items (bytes-from 0 (now (numbers .entry))) ⌝ }
 {
     let mut bytes = Vec::new(heap);
     for n in numbers {
-        if *n > 255 {
+        if *n > LARGEST {
             return Err(Problem::Byte);
         }
         bytes.push(*n as u8)?;

@@ -1,5 +1,5 @@
 ghost use mathlib.Core.Path.{_≡_};
-ghost use Prim.Native.Nat.{ℕ, _<_, _≤_};
+ghost use Prim.Native.Nat.{_<_, _≤_};
 ghost use Rattle.deck.specs.Numbers.{digit, all-digits, value-after, fitting, numeral, number};
 use crate::problem::Problem;
 

@@ -1,7 +1,4 @@
-use mathlib.Core.Path.{_≡_}
-use mathlib.Core.Bool.{false}
 use lib.Chars.{codes}
-use Rattle.std.specs.shelf.Text.{sameBytes}
 use Rattle.std.proofs.shelf.Equals.{matches-decides}
 use Rattle.deck.specs.Words.{separated}
 use Rattle.deck.proofs.Failing.{handed}

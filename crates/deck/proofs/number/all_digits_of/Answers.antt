@@ -1,8 +1,5 @@
 use mathlib.Core.Path.{sym, ap, _∙_}
-use mathlib.Core.Bool.{true}
-use Prim.Native.Nat.{_<_}
 use lib.Dec.{ltb}
-use native.Mathlib.Omega.{arith}
 use borrow.Author.Tests.{lt-ltb, le-ltb}
 use Rattle.deck.proofs.Digits.{digits-on, digits-stop, digits-end}
 use Rattle.deck.proofs.number.all_digits_of.Needs as need
