@@ -32,14 +32,14 @@ pub enum Reply {
 }
 
 impl Desk {
-    pub fn new() -> Desk {
+    pub(crate) fn new() -> Desk {
         Desk {
             style: Style::Console,
             pile: Pile::Nothing,
         }
     }
 
-    pub fn obey(&mut self, heap: Global, command: Command) -> Result<Reply, Misplaced> {
+    pub(crate) fn obey(&mut self, heap: Global, command: Command) -> Result<Reply, Misplaced> {
         match command {
             Command::Record(style) => self.style = style,
             Command::Plain(count) => self.pile.add(Memory::plain(heap, count)?)?,

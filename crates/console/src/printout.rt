@@ -25,7 +25,7 @@ use session::Misplaced;
 use session::misplaced::MisplacedDisplay;
 use std::error::AnyError;
 
-pub fn obey_line(
+pub(crate) fn obey_line(
     rt: &LibcRuntime,
     desk: &mut Desk,
     number: u64,
