@@ -1,8 +1,11 @@
 // Reads decks, from the files named as arguments or from standard input, and prints a record of each.
+mod building;
 mod desk;
+mod lines;
+mod machine;
 mod printout;
 
-use desk::Desk;
+use lines::Lines;
 use std::env;
 use std::error::AnyError;
 use std::fs::File;
@@ -41,20 +44,6 @@ fn run_file(rt: &LibcRuntime, name: &str) -> Result<bool, AnyError> {
     }
 }
 
-fn run_deck<R: BufRead + Drop>(rt: &LibcRuntime, mut reader: R) -> Result<bool, AnyError> {
-    let mut desk = Desk::new();
-    let mut line = Vec::new(rt.alloc());
-    for number in 1..u64::MAX {
-        line.clear();
-        match reader.read_until(b'\n', &mut line) {
-            Ok(0) => return Ok(true),
-            Ok(_) => {}
-            Err(_) => return Ok(false),
-        }
-        if line.last() == Some(&b'\n') {
-            let _ = line.pop();
-        }
-        printout::obey_line(rt, &mut desk, number, &line)?;
-    }
-    Ok(true)
+fn run_deck<R: BufRead + Drop>(rt: &LibcRuntime, reader: R) -> Result<bool, AnyError> {
+    building::run(rt, Lines::new(rt.alloc(), reader))
 }

@@ -1,14 +1,18 @@
-// The record: what a line of a deck prints.
-use crate::desk::Desk;
-use crate::desk::Reply;
+// The record: lines for people or for comparing.
 use answers::Fault;
 use answers::Refusal;
 use deck::Style;
-use deck::problem::ProblemDisplay;
 use printing::call::Call;
+use printing::call::Done;
+use printing::call::DoneDisplay;
 use printing::image::ConsoleImage;
 use printing::image::ConsoleImageDisplay;
 use printing::image::plain_image;
+use printing::lead::ConsoleLead;
+use printing::lead::ConsoleLeadDisplay;
+use printing::lead::PlainLead;
+use printing::lead::PlainLeadDisplay;
+use printing::lead::Spot;
 use printing::octal::OctalAddress;
 use printing::octal::OctalAddressDisplay;
 use printing::refused::ConsoleFault;
@@ -21,52 +25,9 @@ use printing::word::ConsoleWord;
 use printing::word::ConsoleWordDisplay;
 use printing::word::PlainWord;
 use printing::word::PlainWordDisplay;
-use session::Misplaced;
-use session::misplaced::MisplacedDisplay;
 use std::error::AnyError;
 
-pub(crate) fn obey_line(
-    rt: &LibcRuntime,
-    desk: &mut Desk,
-    number: u64,
-    line: &[u8],
-) -> Result<(), AnyError> {
-    match deck::read_line(rt.alloc(), line) {
-        Ok(None) => {}
-        Ok(Some(command)) => match desk.obey(rt.alloc(), command) {
-            Ok(reply) => print_reply(rt, desk, number, reply)?,
-            Err(misplaced) => println!(rt, "line {number}: {misplaced}")?,
-        },
-        Err(problem) => println!(rt, "line {number}: {problem}")?,
-    }
-    Ok(())
-}
-
-fn print_reply(
-    rt: &LibcRuntime,
-    desk: &mut Desk,
-    number: u64,
-    reply: Reply,
-) -> Result<(), AnyError> {
-    match reply {
-        Reply::Nothing => {}
-        Reply::Image {
-            keys,
-            length,
-            words,
-        } => print_image(rt, desk.style, keys, length, &words)?,
-        Reply::Refused(refusal) => print_refused(rt, desk.style, Call::Image, refusal)?,
-        Reply::Read(address) => match desk.pile.read(address) {
-            Some(Ok(word)) => print_word(rt, desk.style, address, word)?,
-            Some(Err(fault)) => print_refused(rt, desk.style, Call::Read, Refusal::Core(fault))?,
-            None => println!(rt, "line {number}: {}", Misplaced::NoCore)?,
-        },
-        Reply::List { address, count } => print_list(rt, desk, number, address, count)?,
-    }
-    Ok(())
-}
-
-fn print_image(
+pub(crate) fn image(
     rt: &LibcRuntime,
     style: Style,
     keys: u8,
@@ -90,7 +51,7 @@ fn print_image(
     Ok(())
 }
 
-fn print_refused(
+pub(crate) fn refused(
     rt: &LibcRuntime,
     style: Style,
     call: Call,
@@ -103,7 +64,28 @@ fn print_refused(
     Ok(())
 }
 
-fn print_word(rt: &LibcRuntime, style: Style, address: u32, word: u32) -> Result<(), AnyError> {
+// A call that answers nothing but that it was accepted.
+pub(crate) fn done(
+    rt: &LibcRuntime,
+    style: Style,
+    call: Call,
+    answer: Result<(), Refusal>,
+) -> Result<(), AnyError> {
+    match answer {
+        Ok(()) => {
+            println!(rt, "{}", Done(call))?;
+            Ok(())
+        }
+        Err(refusal) => refused(rt, style, call, refusal),
+    }
+}
+
+pub(crate) fn word(
+    rt: &LibcRuntime,
+    style: Style,
+    address: u32,
+    word: u32,
+) -> Result<(), AnyError> {
     match style {
         Style::Console => println!(rt, "{}", ConsoleWord { address, word })?,
         Style::Plain => println!(rt, "{}", PlainWord(word))?,
@@ -111,29 +93,8 @@ fn print_word(rt: &LibcRuntime, style: Style, address: u32, word: u32) -> Result
     Ok(())
 }
 
-// Words one after the other, up to the count or the first fault.
-fn print_list(
-    rt: &LibcRuntime,
-    desk: &mut Desk,
-    number: u64,
-    address: u32,
-    count: u32,
-) -> Result<(), AnyError> {
-    for i in 0..count {
-        let at = address.saturating_add(i);
-        match desk.pile.read(at) {
-            Some(Ok(word)) => print_word(rt, desk.style, at, word)?,
-            Some(Err(fault)) => return print_row_fault(rt, desk.style, at, fault),
-            None => {
-                println!(rt, "line {number}: {}", Misplaced::NoCore)?;
-                return Ok(());
-            }
-        }
-    }
-    Ok(())
-}
-
-fn print_row_fault(
+// The end of a listing at an address that faults.
+pub(crate) fn row_fault(
     rt: &LibcRuntime,
     style: Style,
     address: u32,
@@ -149,6 +110,23 @@ fn print_row_fault(
                 refusal: Refusal::Core(fault)
             }
         )?,
+    }
+    Ok(())
+}
+
+// Where an address leads for reading, and for writing.
+pub(crate) fn leads(
+    rt: &LibcRuntime,
+    style: Style,
+    reading: Result<Spot, Fault>,
+    writing: Result<Spot, Fault>,
+) -> Result<(), AnyError> {
+    match style {
+        Style::Console => {
+            println!(rt, "reading: {}", ConsoleLead(reading))?;
+            println!(rt, "writing: {}", ConsoleLead(writing))?;
+        }
+        Style::Plain => println!(rt, "where ok{}{}", PlainLead(reading), PlainLead(writing))?,
     }
     Ok(())
 }

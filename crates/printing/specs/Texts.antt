@@ -13,6 +13,9 @@ use Rattle.std.specs.declared.option.Option.{Option}
 use Rattle.std.specs.declared.option.Option.the-variants.{None, Some}
 use Rattle.printing.specs.Calls.{call-name}
 use Rattle.printing.specs.declared.call.Call.{Call}
+use Rattle.printing.specs.declared.lead.Spot.{Spot}
+use Rattle.std.specs.declared.result.Result.{Result}
+use Rattle.std.specs.declared.result.Result.the-variants.{Ok, Err}
 use Rattle.std.specs.Written.{decimal}
 
 -- one text after the other
@@ -83,3 +86,12 @@ plain-word w = codes "read ok " ++ decimal w
 
 abbrev pub console-word : ℕ → ℕ → List ℕ
 console-word a w = text (octal-address a) (codes "  " ∷ octal 8 w ∷ [])
+
+-- where an address leads: cause 0 with the core address and the cell, or the fault
+abbrev pub plain-lead : Result Spot Fault → List ℕ
+plain-lead (Ok s) = text (codes " 0 ") (decimal (s .address) ∷ codes " " ∷ decimal (s .cell) ∷ [])
+plain-lead (Err f) = plain-fault f
+
+abbrev pub console-lead : Result Spot Fault → List ℕ
+console-lead (Ok s) = text (codes "core ") (octal-address (s .address) ∷ codes ", cell " ∷ octal-address (s .cell) ∷ [])
+console-lead (Err f) = console-fault f

@@ -1,6 +1,7 @@
 // Answers as lines of text, for people and for comparing.
 pub mod call;
 pub mod image;
+pub mod lead;
 pub mod octal;
 pub mod refused;
 pub mod word;

@@ -35,6 +35,23 @@ pub impl fmt::Display for ConsoleFault as ConsoleFaultDisplay {
     }
 }
 
+// A fault as numbers, each after a blank: cause, layer and address.
+#[derive(Drop)]
+pub struct PlainFault(pub Fault);
+
+pub impl fmt::Display for PlainFault as PlainFaultDisplay {
+    ghost shown = { λ x. Some (plain-fault (x .0)) };
+
+    fn fmt<W: fmt::Write>(&self, f: &mut fmt::Formatter<W>) -> fmt::Result {
+        let Fault {
+            cause,
+            layer,
+            address,
+        } = self.0;
+        write!(f, " {} {} {address}", cause.number(), layer.number())
+    }
+}
+
 // A refused call for people.
 #[derive(Drop)]
 pub struct ConsoleRefused {
@@ -69,19 +86,7 @@ pub impl fmt::Display for PlainRefused as PlainRefusedDisplay {
         let call = self.call;
         let number = self.refusal.number();
         match self.refusal.fault() {
-            Some(fault) => {
-                let Fault {
-                    cause,
-                    layer,
-                    address,
-                } = fault;
-                write!(
-                    f,
-                    "{call} refused {number} {} {} {address}",
-                    cause.number(),
-                    layer.number()
-                )
-            }
+            Some(fault) => write!(f, "{call} refused {number}{}", PlainFault(fault)),
             None => write!(f, "{call} refused {number}"),
         }
     }

@@ -1,5 +1,5 @@
 ghost use mathlib.Core.Path.{_≡_};
-ghost use Rattle.session.specs.Built.{added, built, may-add, raw, with-image};
+ghost use Rattle.session.specs.Built.{added, built, is-whole, may-add, may-pair, raw, with-image, with-pair};
 ghost use Rattle.std.specs.Of.Vec.{vec-items};
 use crate::memory::Memory;
 use crate::memory::Pile;
@@ -25,6 +25,10 @@ impl Pile {
                 *self = Pile::Two(first, second);
                 Err(Misplaced::TwoCores)
             }
+            Pile::Pair(first, second) => {
+                *self = Pile::Pair(first, second);
+                Err(Misplaced::TwoCores)
+            }
         }
     }
 
@@ -34,7 +38,35 @@ impl Pile {
     {
         match self {
             Pile::Nothing | Pile::Image(_) => *self = Pile::Image(words),
-            Pile::One(_) | Pile::Two(_, _) => {}
+            Pile::One(_) | Pile::Two(_, _) | Pile::Pair(_, _) => {}
+        }
+    }
+
+    // The two cores as one store, the earlier one in front.
+    pub fn pair(&mut self) -> Result<(), Misplaced>
+        ensures answer { λ r. ⌜ r ≡ may-pair (built (now (self .entry))) ⌝ }
+        ensures after { λ _. ⌜ built (now (self .exit)) ≡ with-pair (built (now (self .entry))) ⌝ }
+    {
+        match mem::replace(self, Pile::Nothing) {
+            Pile::Two(front, back) => {
+                *self = Pile::Pair(front, back);
+                Ok(())
+            }
+            other => {
+                *self = other;
+                Err(Misplaced::NotTwo)
+            }
+        }
+    }
+
+    // Is there one store for a machine to be made over?
+    pub fn whole(&self) -> Result<(), Misplaced>
+        ensures { λ r. ⌜ r ≡ is-whole (built (now (self .entry))) ⌝ }
+    {
+        match self {
+            Pile::Nothing | Pile::Image(_) => Err(Misplaced::NoCore),
+            Pile::Two(_, _) => Err(Misplaced::NotPaired),
+            Pile::One(_) | Pile::Pair(_, _) => Ok(()),
         }
     }
 }

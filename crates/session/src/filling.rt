@@ -37,6 +37,7 @@ impl Pile {
             Pile::Nothing | Pile::Image(_) => Err(Misplaced::NoCore),
             Pile::One(last) => last.put_words(place, words),
             Pile::Two(_, last) => last.put_words(place, words),
+            Pile::Pair(_, last) => last.put_words(place, words),
         }
     }
 
@@ -49,6 +50,7 @@ impl Pile {
             Pile::Nothing | Pile::Image(_) => Err(Misplaced::NoCore),
             Pile::One(last) => last.put_bytes(place, bytes),
             Pile::Two(_, last) => last.put_bytes(place, bytes),
+            Pile::Pair(_, last) => last.put_bytes(place, bytes),
         }
     }
 }

@@ -14,4 +14,6 @@ pub enum Pile {
     One(Memory),
     // two cores, the earlier one in front
     Two(Memory, Memory),
+    // the same, as one store
+    Pair(Memory, Memory),
 }

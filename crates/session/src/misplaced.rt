@@ -18,6 +18,22 @@ pub enum Misplaced {
     Outside,
     // a third core
     TwoCores,
+    // a pair of other than two cores
+    NotTwo,
+    // two cores that are no pair yet
+    NotPaired,
+    // a second protection, or a core behind one
+    Protected,
+    // a range without a protection
+    Unprotected,
+    // a machine of another kind than 0
+    Kind,
+    // a building word after the machine
+    Made,
+    // a call before the machine
+    Unmade,
+    // a group's address of more than 15 bits
+    Address,
     // a core larger than a deck may build
     Large,
     // want of memory
@@ -35,6 +51,14 @@ impl Misplaced {
             Misplaced::NotPacked => "the core named last is not packed",
             Misplaced::Outside => "does not fit into the core",
             Misplaced::TwoCores => "two cores are built already",
+            Misplaced::NotTwo => "not two cores to pair",
+            Misplaced::NotPaired => "the two cores are not paired",
+            Misplaced::Protected => "protected already",
+            Misplaced::Unprotected => "not protected",
+            Misplaced::Kind => "no such kind of machine",
+            Misplaced::Made => "the machine is made",
+            Misplaced::Unmade => "no machine is made",
+            Misplaced::Address => "address above 77777",
             Misplaced::Large => "core too large",
             Misplaced::Memory => "no memory",
         }

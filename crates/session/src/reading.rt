@@ -24,6 +24,7 @@ impl Pile {
             Pile::Image(words) => Some(read_packed(words, address)),
             Pile::One(last) => Some(last.read(address)),
             Pile::Two(_, last) => Some(last.read(address)),
+            Pile::Pair(_, last) => Some(last.read(address)),
         }
     }
 }

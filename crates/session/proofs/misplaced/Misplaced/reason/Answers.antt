@@ -24,3 +24,27 @@ returns-in-Large c = rw (c .in-Large .is)
 
 pub returns-in-Memory : need.returns-in-Memory
 returns-in-Memory c = rw (c .in-Memory .is)
+
+pub returns-in-NotTwo : need.returns-in-NotTwo
+returns-in-NotTwo c = rw (c .in-NotTwo .is)
+
+pub returns-in-NotPaired : need.returns-in-NotPaired
+returns-in-NotPaired c = rw (c .in-NotPaired .is)
+
+pub returns-in-Protected : need.returns-in-Protected
+returns-in-Protected c = rw (c .in-Protected .is)
+
+pub returns-in-Unprotected : need.returns-in-Unprotected
+returns-in-Unprotected c = rw (c .in-Unprotected .is)
+
+pub returns-in-Kind : need.returns-in-Kind
+returns-in-Kind c = rw (c .in-Kind .is)
+
+pub returns-in-Made : need.returns-in-Made
+returns-in-Made c = rw (c .in-Made .is)
+
+pub returns-in-Unmade : need.returns-in-Unmade
+returns-in-Unmade c = rw (c .in-Unmade .is)
+
+pub returns-in-Address : need.returns-in-Address
+returns-in-Address c = rw (c .in-Address .is)

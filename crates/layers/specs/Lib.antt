@@ -1,0 +1,4 @@
+pub mod Pair
+pub mod Ranges
+pub mod Listed
+pub mod Protection
