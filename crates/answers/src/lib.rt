@@ -1,4 +1,6 @@
 // The numbers that answers carry: causes, layers, codes and refusals, each by name.
+#![tactic(auto)]
+
 pub mod cause;
 pub mod code;
 pub mod fault;

@@ -1,4 +1,6 @@
 // Ten worked cases of the rules.
+#![tactic(auto)]
+
 ghost use Rattle.std.specs.Prelude.{◌≡◌};
 ghost use Rattle.bench.specs.Cases.{WorkedCases};
 

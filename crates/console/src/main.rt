@@ -1,4 +1,6 @@
 // Reads decks, from the files named as arguments or from standard input, and prints a record of each.
+#![tactic(auto)]
+
 mod building;
 mod desk;
 mod lines;

@@ -1,4 +1,6 @@
 // Reads a line of the operator's deck language.
+#![tactic(auto)]
+
 pub mod command;
 mod count;
 mod keyword;

@@ -1,4 +1,6 @@
 // Tests of the deck's lines.
+#![tactic(auto)]
+
 #[cfg(test)]
 mod tests {
     use deck::{Command, Problem, Style, read_line};

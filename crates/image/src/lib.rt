@@ -1,5 +1,7 @@
 // An image from a site: the mark RCK, a version in two bytes, the keys in one, the length of a turn in two,
 // the number of words in two, and then the words in three bytes each. Every number has its highest byte first.
+#![tactic(auto)]
+
 ghost use Rattle.image.specs.Image.{Sound, content, encoded, reading};
 ghost use Rattle.std.specs.Prelude.{◌≡◌, IfOk, Ok, Err, MatchResult};
 

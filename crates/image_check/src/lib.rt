@@ -1,4 +1,6 @@
 // Images that are read and images that are refused.
+#![tactic(auto)]
+
 #[cfg(test)]
 mod tests {
     use answers::Refusal;

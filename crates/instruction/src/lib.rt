@@ -3,6 +3,8 @@
 //   bit 23      18 17   15 14            0
 //      |   code   |   d   |    y or m     |    third digit d, operand y or address m
 //      |   code   | a | b |       m       |    a: indirect, b: index register
+#![tactic(auto)]
+
 pub mod action;
 pub mod decoding;
 pub mod digit;

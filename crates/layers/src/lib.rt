@@ -1,4 +1,6 @@
 // Stores over other stores: a pair, and a protection.
+#![tactic(auto)]
+
 pub mod pair;
 pub mod protection;
 pub mod range;

@@ -1,4 +1,6 @@
 // Examples of pairs, protections and pages, with what the rules make of them.
+#![tactic(auto)]
+
 #[cfg(test)]
 mod faults;
 #[cfg(test)]

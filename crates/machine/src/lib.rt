@@ -1,4 +1,6 @@
 // The machine: eight groups over one core, and its calls.
+#![tactic(auto)]
+
 pub mod load;
 pub mod machine;
 mod records;

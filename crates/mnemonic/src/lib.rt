@@ -1,4 +1,6 @@
 // Instruction words as COMPASS writes them: a mnemonic with its modifier, then the operands.
+#![tactic(auto)]
+
 mod action;
 pub mod listing;
 mod operands;

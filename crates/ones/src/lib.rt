@@ -1,3 +1,5 @@
+#![tactic(auto)]
+
 mod logic;
 pub mod number;
 mod order;

@@ -1,4 +1,6 @@
 // Instructions with a memory operand, over a group's view of any store.
+#![tactic(auto)]
+
 mod addressing;
 mod changing;
 mod operation;

@@ -1,4 +1,6 @@
 // Page descriptors, the page file, and the relocation of a group's addresses.
+#![tactic(auto)]
+
 pub mod descriptor;
 pub mod file;
 pub mod group;

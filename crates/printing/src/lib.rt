@@ -1,4 +1,6 @@
 // Answers as lines of text, for people and for comparing.
+#![tactic(auto)]
+
 pub mod call;
 pub mod image;
 pub mod lead;

@@ -1,4 +1,6 @@
 // The registers of a group, its record, and the traps that stop it.
+#![tactic(auto)]
+
 pub mod index;
 pub mod key;
 pub mod keys;

@@ -1,4 +1,6 @@
 // What instructions do with registers, apart from memory. The table of all rules is in specs/Table.
+#![tactic(auto)]
+
 pub mod acting;
 mod immediate;
 mod jump;

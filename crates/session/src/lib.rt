@@ -1,4 +1,6 @@
 // What a deck builds before its machine is made.
+#![tactic(auto)]
+
 pub mod building;
 mod contents;
 pub mod filling;

@@ -1,4 +1,6 @@
 // Carries out the cases of a table on standard input, one instruction each, and holds what each leaves to what the table says.
+#![tactic(auto)]
+
 mod case;
 mod difference;
 mod item;

@@ -1,4 +1,6 @@
 // Core stores: what a store means, and the two cores over the caller's memory.
+#![tactic(auto)]
+
 pub mod lend;
 pub mod lent;
 pub mod packed;

@@ -1,4 +1,6 @@
 // Examples of the stores and of the numbers that their faults carry.
+#![tactic(auto)]
+
 #[cfg(test)]
 mod tests {
     use answers::{Cause, Fault, Layer, Refusal};

@@ -1,4 +1,6 @@
 // A group's own 15-bit addresses in any store that has the addresses of all groups.
+#![tactic(auto)]
+
 ghost use Rattle.std.specs.Prelude.{◌≡◌};
 ghost use Rattle.pages.specs.View.{original};
 ghost use Rattle.store.specs.Meaning.{after, settled};
