@@ -1,6 +1,6 @@
 -- References to what is lent.
-use Rattle.std.specs.Borrow.{Bor}
+use Rattle.std.specs.Borrow.{MutBor}
 
 -- the same reference, with x behind it
-abbrev pub behind : {X : Type 0} → Bor X → X → Bor X
-behind r x = record { ref_ptr = r.ptr; ghost_name = r.name; now = x }
+abbrev pub behind : {X : Type 0} → MutBor X → X → MutBor X
+behind r x = record { ref_ptr = r.ref_ptr; ghost_name = r.ghost_name; now = x }

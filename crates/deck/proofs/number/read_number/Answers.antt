@@ -8,11 +8,11 @@ returns-in-48 c =
     let long : 2 ≤ length c.args.word.now = omega (arith, ltb-false) in
     let first : get_or c.args.word.now 0 0 ≡ 48 = omega arith in
     let second : get_or c.args.word.now 1 0 ≡ 111 = omega arith in
-    c.read-digits.ensures ∙ octal _ long first second
+    c.read_digits.ensures ∙ octal _ long first second
 
 pub returns-in-48-2 : goal.returns-in-48-2
 returns-in-48-2 c =
     let long : 2 ≤ length c.args.word.now = omega (arith, ltb-false) in
     let first : get_or c.args.word.now 0 0 ≡ 48 = omega arith in
     let second : get_or c.args.word.now 1 0 ≡ 120 = omega arith in
-    c.read-digits-in-48-2.ensures ∙ hexadecimal _ long first second
+    c.read_digits-in-48-2.ensures ∙ hexadecimal _ long first second

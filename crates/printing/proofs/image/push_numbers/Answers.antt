@@ -6,7 +6,7 @@ use Rattle.printing.proofs.image.push_numbers.Goals as goal
 
 pub loop-number-preserved : goal.loop-number-preserved
 loop-number-preserved c =
-    one_more _ _ (string_bytes c.in-ok-shown.shown) _ _ _ c.loop-number-test.true c.loop-number.invariant c.in-ok-shown.ensures.ok (search rules)
+    one_more _ _ (string_bytes c.in_ok-shown.shown) _ _ _ c.loop-number-test.true c.loop-number.invariant c.in_ok-shown.ensures.ok (search rules)
 
 pub returns : goal.returns
 returns c =

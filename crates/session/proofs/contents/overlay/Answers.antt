@@ -10,6 +10,6 @@ returns g c =
     let h : fits memory place contents ≡ true = le-leb _ _ (omega arith) in
     record {
       answer = rw h;
-      after = rw (h, c.copy-from-slice.ensures.after)
+      after = rw (h, c.copy_from_slice.ensures.after)
           (ap (λ (rest : List g.row.T.Denot). take place memory ++ (contents ++ rest)) (Post-is place (place + length contents) memory (omega arith)));
     }

@@ -4,7 +4,7 @@ use Rattle.layers.proofs.protection.ProtectionStore.write.Goals as goal
 
 pub returns : goal.returns
 returns g c = record {
-  answer = c.write.ensures.answer ∙ guarded_open _ _ _ c.in-ok-ask.ensures;
+  answer = c.write.ensures.answer ∙ guarded_open _ _ _ c.in_ok-ask.ensures;
   effect = search (rules, protected_effect);
   whole = search (rules, protected_whole);
 }

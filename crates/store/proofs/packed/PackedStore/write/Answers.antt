@@ -4,4 +4,4 @@ use Rattle.store.specs.Bytes.{packed_write}
 use Rattle.store.proofs.packed.PackedStore.write.Goals as goal
 
 pub returns : goal.returns
-returns c = let h = below_taken _ _ _ c.in-ok-ask.ensures in search (rules, packed_write)
+returns c = let h = below_taken _ _ _ c.in_ok-ask.ensures in search (rules, packed_write)
