@@ -6,10 +6,10 @@ use Rattle.operands.proofs.addressing.effective.Goals as goal
 pub returns-then-left-eq0 : goal.returns-then-left-eq0
 returns-then-left-eq0 g c = spent _ _ _ _ c.loop-place.invariant c.loop-place-test.true c.if-left-eq0.true
 
-pub returns-in-err-word : goal.returns-in-err-word
-returns-in-err-word g c =
+pub returns-in_err-word : goal.returns-in_err-word
+returns-in_err-word g c =
     let m = more _ _ _ _ c.loop-place.invariant c.loop-place-test.true c.if-left-eq0.false in
-    let p = err_from_is_err_and c.from-residual.result c.from-residual.ensures.1 in
+    let p = err_from_is_err_and c.from_residual.result c.from_residual.ensures.1 in
     search rules
 
 pub loop-place-preserved : goal.loop-place-preserved

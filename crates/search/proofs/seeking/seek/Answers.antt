@@ -16,12 +16,12 @@ loop-number-preserved g c =
 pub loop-number-smaller : goal.loop-number-smaller
 loop-number-smaller g c = let p : 0 < c.words-step.result = omega arith in omega arith
 
-pub returns-in-err-word : goal.returns-in-err-word
-returns-in-err-word g c =
+pub returns-in_err-word : goal.returns-in_err-word
+returns-in_err-word g c =
     let p : 0 < c.words-step.result = omega arith in
     let k = tried _ _ _ _ _ _ c.loop-number.invariant.1 c.loop-number.invariant.2 c.loop-number-test.true p in
     let e = k.2 in
-    let f = err_from_is_err_and c.from-residual.result c.from-residual.ensures.1 in
+    let f = err_from_is_err_and c.from_residual.result c.from_residual.ensures.1 in
     search rules
 
 pub returns-then-hits : goal.returns-then-hits

@@ -7,11 +7,11 @@ use Rattle.step.proofs.Fetching.{fetched, unfetched}
 use Rattle.step.proofs.Laws.{gone, sees, trapped, widths, written}
 use Rattle.step.proofs.stepping.step.Goals as goal
 
-pub returns-in-err-word : goal.returns-in-err-word
-returns-in-err-word g c =
-    let f = err_from_is_err_and c.from-residual.result c.from-residual.ensures.1 in
-    let e = unfetched c.args.keys (sight (g.S.Store.meaning c.args.store.now) c.args.group.number) c.args.registers.now _ (sym c.in-err-word.ensures) in
-    let k : Carried g.S.Store.meaning g.S.Store.wrote c.args.group.number (step c.args.keys (sight (g.S.Store.meaning c.args.store.now) c.args.group.number) c.args.registers.now) c.args.registers.now c.args.registers.now c.args.store.now c.args.store.now c.from-residual.result =
+pub returns-in_err-word : goal.returns-in_err-word
+returns-in_err-word g c =
+    let f = err_from_is_err_and c.from_residual.result c.from_residual.ensures.1 in
+    let e = unfetched c.args.keys (sight (g.S.Store.meaning c.args.store.now) c.args.group.number) c.args.registers.now _ (sym c.in_err-word.ensures) in
+    let k : Carried g.S.Store.meaning g.S.Store.wrote c.args.group.number (step c.args.keys (sight (g.S.Store.meaning c.args.store.now) c.args.group.number) c.args.registers.now) c.args.registers.now c.args.registers.now c.args.store.now c.args.store.now c.from_residual.result =
     rw e (record { answer = cc; registers = refl; effect = refl; whole = refl }) in
     record {
       carried = k;
@@ -24,7 +24,7 @@ returns-in-err-word g c =
 
 pub returns : goal.returns
 returns g c =
-    let e = fetched c.args.keys (sight (g.S.Store.meaning c.args.store.now) c.args.group.number) c.args.registers.now _ (sym c.in-ok-word.ensures) in
+    let e = fetched c.args.keys (sight (g.S.Store.meaning c.args.store.now) c.args.group.number) c.args.registers.now _ (sym c.in_ok-word.ensures) in
     let k = rw (c.decode.ensures, ← e) at c.execute.ensures in
     record {
       carried = k;

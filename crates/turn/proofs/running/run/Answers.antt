@@ -10,7 +10,7 @@ loop-count-preserved g c = more _ _ _ _ _ _ _ _ _ _ _ _ _ c.loop-count.invariant
 
 pub returns-then-not-advance : goal.returns-then-not-advance
 returns-then-not-advance g c =
-    simp c.trap-of-trap.ensures (stopped _ _ _ _ _ _ _ _ _ _ _ _ _ c.loop-count.invariant c.loop-count-test.true c.advance.ensures c.if-not-advance.true)
+    simp c.trap_of-trap.ensures (stopped _ _ _ _ _ _ _ _ _ _ _ _ _ c.loop-count.invariant c.loop-count-test.true c.advance.ensures c.if-not-advance.true)
 
 pub returns : goal.returns
 returns g c = at_length _ _ _ _ _ _ _ _ _ _ c.loop-count.invariant c.loop-count-test.false
