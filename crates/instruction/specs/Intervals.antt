@@ -1,5 +1,5 @@
 -- The interval of a search.
-use Rattle.std.specs.Prelude.{ℕ, ◌+◌, ◌%◌, ◌<◌, ◌≤◌, Bool, true, false, cond}
+use Rattle.std.specs.Prelude.{ℕ, ◌+◌, ◌%◌}
 use Rattle.std.proofs.Common.{arith}
 use Rattle.instruction.specs.declared.interval.Interval.{Interval}
 

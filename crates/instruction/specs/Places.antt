@@ -1,5 +1,5 @@
 -- Places in the low 18 bits of a word.
-use Rattle.std.specs.Prelude.{ℕ, ◌/◌, ◌%◌, ◌^◌, Bool, ◌==◌}
+use Rattle.std.specs.Prelude.{◌/◌, ◌%◌, ◌^◌, ◌==◌}
 use Rattle.instruction.specs.Digits.{digit_index}
 use Rattle.instruction.specs.declared.place.Mode.{Mode}
 use Rattle.instruction.specs.declared.place.Mode.TheVariants.{Indexed, Unindexed}

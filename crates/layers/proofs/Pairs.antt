@@ -1,5 +1,5 @@
 -- A write to a pair is the write to one of its stores, seen through the pair.
-use Rattle.std.proofs.Common.{◌≡◌, ℕ, ◌+◌, ◌-◌, ◌<◌, ◌≤◌, min, Bool, true, false, Ok, Err, Result, refl, ap}
+use Rattle.std.proofs.Common.{◌≡◌, ℕ, ◌+◌, ◌-◌, ◌<◌, ◌≤◌, min, Ok, Err, Result, refl, ap}
 use Rattle.answers.specs.declared.fault.Fault.{Fault}
 use Rattle.std.proofs.lemmas.Bool.{lt-ltb, le-ltb}
 use Rattle.store.specs.Meaning.{Meaning, Sound, after, settled}

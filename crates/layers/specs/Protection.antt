@@ -1,5 +1,5 @@
 -- A store some of whose addresses take no write.
-use Rattle.std.specs.Prelude.{◌≡◌, ℕ, ◌≤◌, Bool, true, false, cond, List, Ok, Err, Result, refl}
+use Rattle.std.specs.Prelude.{ℕ, Bool, cond, List, Ok, Err, Result}
 use Rattle.answers.specs.declared.fault.Fault.{Fault}
 use Rattle.answers.specs.declared.cause.Cause.TheVariants.{Protected}
 use Rattle.layers.specs.declared.range.Range.{Range}

@@ -1,9 +1,9 @@
 -- A write that a layer takes, seen through the layer.
-use Rattle.std.specs.Prelude.{◌≡◌, ℕ, ◌+◌, ◌-◌, ◌<◌, ◌≤◌, min, Bool, true, false, cond, ◌≢◌, ◌⊎◌, List, Ok, Err, Result, nat_lt, refl}
+use Rattle.std.specs.Prelude.{◌≡◌, ℕ, ◌+◌, ◌-◌, ◌<◌, ◌≤◌, min, Bool, true, false, cond, ◌≢◌, List, Ok, Err, Result, nat_lt, refl}
 use Rattle.std.proofs.Common.{sym, ap, subst, inl, inr, arith}
 use Rattle.std.proofs.Math.Path.{fun_ext}
 use Rattle.answers.specs.declared.fault.Fault.{Fault}
-use Rattle.layers.specs.Pair.{paired, joined, moved, split, written}
+use Rattle.layers.specs.Pair.{paired, joined, moved, written}
 use Rattle.layers.specs.Protection.{guarded, protected}
 use Rattle.layers.specs.declared.pair.Pair.{Pair}
 use Rattle.layers.specs.declared.range.Range.{Range}

@@ -1,10 +1,8 @@
 -- An accepted turn, as the calls of a model say it.
-use Rattle.std.proofs.Common.{◌≡◌, ℕ, ◌<◌, ◌≤◌, Bool, true, false, cond, ltb, List, set, Some, None, Ok, Err, Option, Result, sym, refl, ap, ◌∙◌, subst, arith}
-use Rattle.answers.specs.declared.refusal.Refusal.{Refusal}
+use Rattle.std.proofs.Common.{◌≡◌, ℕ, ◌<◌, ◌≤◌, Bool, true, false, cond, ltb, List, set, Some, None, Ok, Option, refl, ap, ◌∙◌, subst, arith}
 use Rattle.machine.proofs.Cores.{Kept, kept, whole, wrote_whole}
 use Rattle.machine.specs.Calls.{after_run, answered, turn_answer, turn_refusal, turn_run, unless_refused}
 use Rattle.machine.specs.Models.{Model, entry_of}
-use Rattle.pages.specs.declared.descriptor.Descriptor.{Descriptor}
 use Rattle.pages.specs.declared.file.PageFile.{PageFile}
 use Rattle.pages.specs.declared.relocation.Relocation.{Relocation}
 use Rattle.registers.specs.Keys.{keys, keys_from}
@@ -15,9 +13,9 @@ use Rattle.registers.specs.declared.record.State.TheVariants.{Running, Stopped}
 use Rattle.registers.specs.declared.registers.Registers.{Registers}
 use Rattle.registers.specs.declared.trap.Trap.{Trap}
 use Rattle.std.proofs.lemmas.Bool.{le-ltb, ltb-true}
-use Rattle.store.specs.Meaning.{Meaning, after, with_word}
+use Rattle.store.specs.Meaning.{Meaning, after}
 use Rattle.turn.specs.Runs.{Run}
-use Rattle.turn.specs.Turns.{Ran, Turning, turns, state_after, the_run}
+use Rattle.turn.specs.Turns.{Ran, Turning, turns, state_after}
 use Rattle.turn.specs.declared.turned.Turned.{Turned}
 
 made_at : (k : ℕ) (q : Keys) (b : Bool) → ltb k 64 ≡ b → cond b (Some (keys k)) None ≡ Some q → (k < 64) × (q ≡ keys k)

@@ -1,10 +1,9 @@
 -- Writes through a page file, seen from the core below it.
-use Rattle.std.proofs.Common.{◌≡◌, ℕ, List, [], ◌∷◌, Ok, Err, Result, sym, refl, ap, ◌∙◌, arith}
+use Rattle.std.proofs.Common.{◌≡◌, ℕ, List, [], ◌∷◌, Ok, Err, Result, sym, refl, ap, ◌∙◌}
 use Rattle.answers.specs.declared.fault.Fault.{Fault}
 use Rattle.pages.specs.Pages.{located}
-use Rattle.pages.specs.Relocation.{relocated, relocated_writes, written_below, writes_at}
+use Rattle.pages.specs.Relocation.{relocated, written_below, writes_at}
 use Rattle.pages.specs.View.{original}
-use Rattle.pages.specs.declared.descriptor.Descriptor.{Descriptor}
 use Rattle.pages.specs.declared.relocation.Relocation.{Relocation}
 use Rattle.store.specs.Meaning.{Meaning, Words, after, settled, with_word}
 use Rattle.view.specs.Seen.{takes_at}

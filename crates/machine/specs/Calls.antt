@@ -1,18 +1,17 @@
 -- The calls of a machine: which is refused, and what an accepted one answers and leaves.
-use Rattle.std.specs.Prelude.{ℕ, ◌≤◌, Bool, cond, ◌||◌, List, Some, None, Ok, Err, Option, Result, nat_lt, slice_set}
+use Rattle.std.specs.Prelude.{ℕ, cond, ◌||◌, Some, None, Ok, Err, Option, Result, nat_lt, slice_set}
 use Rattle.answers.specs.declared.refusal.Refusal.{Refusal}
 use Rattle.answers.specs.declared.refusal.Refusal.TheVariants as refusals
 use Rattle.machine.specs.Loads.{load_fits, loaded}
 use Rattle.machine.specs.Models.{Model, record_of}
 use Rattle.machine.specs.declared.load.Load.{Load}
 use Rattle.pages.specs.Relocation.{relocated}
-use Rattle.pages.specs.Settings.{accepted, entered}
+use Rattle.pages.specs.Settings.{entered}
 use Rattle.pages.specs.declared.setting.Setting.{Setting}
 use Rattle.registers.specs.Keys.{keys}
-use Rattle.registers.specs.declared.record.Record.{Record}
 use Rattle.registers.specs.declared.record.State.{State}
 use Rattle.registers.specs.declared.record.State.TheVariants.{Running, Stopped}
-use Rattle.store.specs.Meaning.{Meaning, with_word}
+use Rattle.store.specs.Meaning.{with_word}
 use Rattle.turn.specs.Runs.{Run, run}
 use Rattle.turn.specs.Turns.{state_after}
 use Rattle.turn.specs.declared.turned.Turned.{Turned}

@@ -1,5 +1,5 @@
 -- Register loads.
-use Rattle.std.specs.Prelude.{ℕ, ◌^◌, Bool, false, ◌&&◌, nat_lt}
+use Rattle.std.specs.Prelude.{◌^◌, Bool, false, ◌&&◌, nat_lt}
 use Rattle.machine.specs.declared.load.Load.{Load}
 use Rattle.ones.specs.Numbers.{address, word}
 use Rattle.registers.specs.declared.record.Record.{Record}

@@ -1,5 +1,5 @@
 -- One place more on the way to an effective address.
-use Rattle.std.proofs.Common.{◌≡◌, ℕ, zero, suc, ◌-◌, Bool, true, false, cond, Some, None, Ok, Err, Option, Result, refl, arith}
+use Rattle.std.proofs.Common.{◌≡◌, ℕ, zero, suc, ◌-◌, true, false, Some, None, Ok, Option, Result, refl, arith}
 use Rattle.answers.specs.declared.fault.Fault.{Fault}
 use Rattle.instruction.specs.Places.{placed}
 use Rattle.instruction.specs.declared.place.Place.{Place}

@@ -1,5 +1,5 @@
 -- What a located address says of its entry, and which addresses an entry locates.
-use Rattle.std.proofs.Common.{◌≡◌, ℕ, ◌+◌, ◌-◌, ◌*◌, ◌/◌, ◌%◌, ◌<◌, ◌≤◌, Bool, true, false, cond, T, ltb, List, get_or, Ok, Err, refl, arith}
+use Rattle.std.proofs.Common.{◌≡◌, ℕ, ◌+◌, ◌-◌, ◌*◌, ◌<◌, ◌≤◌, Bool, true, false, cond, T, ltb, List, get_or, Ok, Err, refl, arith}
 use Rattle.answers.specs.declared.fault.Fault.{Fault}
 use Rattle.pages.specs.Limits.{lawful}
 use Rattle.pages.specs.Pages.{entry_of, quarter_of, offset_of, core_address, located, placed, unmapped}

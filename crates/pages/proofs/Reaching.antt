@@ -1,16 +1,15 @@
 -- A group reaches and writes cells by its own entries.
-use Rattle.std.proofs.Common.{◌≡◌, ℕ, ◌+◌, ◌*◌, ◌/◌, ◌<◌, ◌≤◌, Bool, true, false, List, get_or, Ok, Err, Result, sym, refl, ap, ◌∙◌, arith}
+use Rattle.std.proofs.Common.{◌≡◌, ℕ, ◌+◌, ◌*◌, ◌/◌, ◌<◌, ◌≤◌, Bool, true, false, List, Ok, Err, Result, sym, refl, ◌∙◌, arith}
 use Rattle.answers.specs.declared.fault.Fault.{Fault}
-use Rattle.pages.specs.Pages.{entry_of, quarter_of, offset_of, core_address, located}
+use Rattle.pages.specs.Pages.{entry_of, quarter_of, offset_of, located}
 use Rattle.pages.specs.Reach.{Own, Through, Writes, Reach}
 use Rattle.pages.specs.Relocation.{through, flagged}
 use Rattle.pages.specs.View.{original, Reaches, CanWrite}
 use Rattle.pages.specs.declared.descriptor.Descriptor.{Descriptor}
-use Rattle.pages.specs.declared.descriptor.Descriptor.TheVariants.{Absent, Mapped}
 use Rattle.pages.specs.declared.descriptor.Window.{Window}
 use Rattle.pages.specs.declared.file.Place.{Place}
 use Rattle.store.specs.Meaning.{Meaning}
-use Rattle.pages.proofs.Places.{Found, found, few_quarters, locates}
+use Rattle.pages.proofs.Places.{found, few_quarters, locates}
 
 passed : {Y : Type 0} (r : Result Place Fault) (f : Place → Result Y Fault) (y : Y) → through r f ≡ Ok y → (p : Place) × (r ≡ Ok p) × (f p ≡ Ok y)
 passed (Ok p) f y h = (p, refl, h)

@@ -1,5 +1,5 @@
 -- A store whose addresses go through a page file.
-use Rattle.std.specs.Prelude.{◌≡◌, ℕ, ◌<◌, ◌≤◌, Bool, true, false, cond, List, Ok, Err, Result, refl}
+use Rattle.std.specs.Prelude.{◌≡◌, ℕ, Bool, true, false, cond, List, Ok, Err, Result}
 use Rattle.std.proofs.Common.{ap, arith}
 use Rattle.answers.specs.declared.cause.Cause.TheVariants.{Protected}
 use Rattle.answers.specs.declared.fault.Fault.{Fault}
@@ -8,7 +8,7 @@ use Rattle.pages.specs.Pages.{located}
 use Rattle.pages.specs.declared.descriptor.Descriptor.{Descriptor}
 use Rattle.pages.specs.declared.file.Place.{Place}
 use Rattle.std.proofs.lemmas.Bool.{le-ltb}
-use Rattle.store.specs.Meaning.{Meaning, Sound, Past, Within, Follows, after, stored, with_word}
+use Rattle.store.specs.Meaning.{Meaning, Sound, Within, Follows, after, stored, with_word}
 
 -- no write taken on the page
 abbrev pub read_only : ℕ → Fault

@@ -1,5 +1,5 @@
 -- What is printed of an answer.
-use Rattle.std.specs.Prelude.{ℕ, zero, suc, ◌+◌, ◌*◌, ◌/◌, ◌%◌, ◌^◌, cond, List, [], ◌∷◌, ◌++◌, length, Some, None, Ok, Err, codes, decimal, Option, Result, nat_lt}
+use Rattle.std.specs.Prelude.{ℕ, zero, suc, ◌*◌, ◌/◌, ◌%◌, ◌^◌, cond, List, [], ◌∷◌, ◌++◌, Some, None, Ok, Err, codes, decimal, Option, Result, nat_lt}
 use Rattle.answers.specs.Names.{cause_name, layer_name, refusal_name}
 use Rattle.answers.specs.Numbers.{cause_number, layer_number, refusal_number, refusal_fault}
 use Rattle.answers.specs.declared.fault.Fault.{Fault}

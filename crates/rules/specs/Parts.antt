@@ -1,5 +1,5 @@
 -- What several rows of the instruction table share.
-use Rattle.std.specs.Prelude.{ℕ, zero, suc, ◌-◌, ◌%◌, ◌^◌, Bool, cond, not, List, [], ◌∷◌, Some, None, Ok, Err, Option, Result, ◌==◌, nat_le, nat_lt}
+use Rattle.std.specs.Prelude.{ℕ, zero, suc, ◌-◌, ◌%◌, ◌^◌, Bool, cond, not, [], ◌∷◌, Some, None, Ok, Option, Result, ◌==◌, nat_le, nat_lt}
 use Rattle.answers.specs.declared.fault.Fault.{Fault}
 use Rattle.instruction.specs.Places.{placed}
 use Rattle.instruction.specs.declared.action.Count.{Count}
@@ -18,7 +18,6 @@ use Rattle.registers.specs.declared.index.Index.{Index}
 use Rattle.registers.specs.declared.index.Index.TheVariants.{B0, B1, B2, B3}
 use Rattle.registers.specs.declared.registers.Registers.{Registers}
 use Rattle.rules.specs.Sight.{Sight, Done, bind, quiet}
-use Rattle.view.specs.Writes.{Write}
 
 -- P becomes m, or goes on by one
 abbrev pub jump_if : Bool → Ones 15 → Registers → Registers

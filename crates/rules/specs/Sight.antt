@@ -2,7 +2,6 @@
 use Rattle.std.specs.Prelude.{ℕ, List, [], Ok, Err, Result}
 use Rattle.answers.specs.declared.fault.Fault.{Fault}
 use Rattle.ones.specs.declared.number.Ones.{Ones}
-use Rattle.registers.specs.declared.keys.Keys.{Keys}
 use Rattle.registers.specs.declared.registers.Registers.{Registers}
 use Rattle.registers.specs.declared.trap.Trap.{Trap}
 use Rattle.registers.specs.declared.trap.Trap.TheVariants.{Store}

@@ -3,7 +3,7 @@
 -- r are the registers, y and m the low 15 bits of the instruction, w the word at the effective address M, and u, v those
 -- at M and M + 1. A row goes on to P + 1 unless it says otherwise; `on n` is P + n. `reading`, `changing` and `storing` say
 -- which words of M are read and written, in which order.
-use Rattle.std.specs.Prelude.{ℕ, Bool, cond, not, Some, None, Ok, Err, Option, Result, ◌==◌}
+use Rattle.std.specs.Prelude.{Bool, cond, not, Some, None, Ok, Err, Option, Result, ◌==◌}
 use Rattle.answers.specs.declared.fault.Fault.{Fault}
 use Rattle.instruction.specs.Decode.{decoded}
 use Rattle.instruction.specs.declared.action.Action.{Action}
@@ -39,7 +39,7 @@ use Rattle.registers.specs.declared.keys.Keys.{Keys}
 use Rattle.registers.specs.declared.registers.Registers.{Registers}
 use Rattle.registers.specs.declared.trap.Trap.{Trap}
 use Rattle.registers.specs.declared.trap.Trap.TheVariants as traps
-use Rattle.rules.specs.Parts.{jump_if, skip_if, stepped, related, same_bits, at_least, widened, low_part, combined, second, shifted_by, effective, reading, reading_two, changing, storing, storing_two, searching}
+use Rattle.rules.specs.Parts.{jump_if, skip_if, stepped, related, same_bits, at_least, low_part, combined, second, shifted_by, effective, reading, reading_two, changing, storing, storing_two, searching}
 use Rattle.rules.specs.Sight.{Sight, Done, bind, quiet, trapping}
 
 -- 00.1-6 SJ1 to SJ6: jump to m if the key is set

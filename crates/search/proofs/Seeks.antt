@@ -1,5 +1,5 @@
 -- One word more of a search.
-use Rattle.std.proofs.Common.{◌≡◌, ℕ, zero, suc, ◌-◌, ◌<◌, ◌≤◌, Bool, true, false, cond, ltb, Some, None, Ok, Err, Option, Result, arith}
+use Rattle.std.proofs.Common.{◌≡◌, ℕ, zero, suc, ◌-◌, ◌<◌, ◌≤◌, Bool, cond, Some, None, Ok, Option, Result, arith}
 use Rattle.answers.specs.declared.fault.Fault.{Fault}
 use Rattle.ones.specs.Numbers.{address, plus}
 use Rattle.ones.specs.declared.number.Ones.{Ones}

@@ -1,5 +1,5 @@
 -- What a deck has built, by what its memory holds.
-use Rattle.std.specs.Prelude.{◌≡◌, ℕ, ◌≤◌, Bool, true, false, cond, List, replicate, Some, None, Ok, Err, vec_items, Option, Result, nat_lt}
+use Rattle.std.specs.Prelude.{◌≡◌, ℕ, ◌≤◌, cond, List, replicate, Some, None, Ok, Err, vec_items, Option, Result, nat_lt}
 use Rattle.answers.specs.declared.fault.Fault.{Fault}
 use Rattle.session.specs.Contents.{overlaid, fits, allowed}
 use Rattle.session.specs.declared.memory.Memory.{Memory}

@@ -1,5 +1,5 @@
 -- Contents that a deck puts into memory.
-use Rattle.std.specs.Prelude.{ℕ, ◌+◌, Bool, true, false, cond, List, ◌++◌, length, take, drop, Ok, Err, Result, nat_le}
+use Rattle.std.specs.Prelude.{ℕ, ◌+◌, Bool, true, false, List, ◌++◌, length, take, drop, Ok, Err, Result, nat_le}
 use Rattle.session.specs.declared.misplaced.Misplaced.{Misplaced}
 use Rattle.session.specs.declared.misplaced.Misplaced.TheVariants.{Outside}
 

@@ -1,5 +1,5 @@
 -- An instruction by its fetch.
-use Rattle.std.proofs.Common.{◌≡◌, ℕ, Ok, Err}
+use Rattle.std.proofs.Common.{◌≡◌, Ok, Err}
 use Rattle.answers.specs.declared.fault.Fault.{Fault}
 use Rattle.instruction.specs.Decode.{decoded}
 use Rattle.ones.specs.declared.number.Ones.{Ones}

@@ -1,10 +1,9 @@
 -- Writes through a map change only cells that it takes writes for.
-use Rattle.std.proofs.Common.{◌≡◌, ℕ, ◌%◌, ◌^◌, Bool, true, false, cond, eqb, ◌⊎◌, List, [], ◌∷◌, Ok, Err, Result, sym, refl, ◌∙◌, inl, inr, arith}
+use Rattle.std.proofs.Common.{◌≡◌, ℕ, ◌%◌, ◌^◌, Bool, true, false, cond, eqb, ◌⊎◌, List, [], ◌∷◌, Ok, Err, Result, refl, ◌∙◌, inl, inr, arith}
 use Rattle.answers.specs.declared.fault.Fault.{Fault}
-use Rattle.ones.specs.declared.number.Ones.{Ones}
 use Rattle.pages.specs.View.{original}
 use Rattle.std.proofs.lemmas.Bool.Decides.{nat_tests}
-use Rattle.store.specs.Meaning.{Meaning, Words, after, put, stored}
+use Rattle.store.specs.Meaning.{Meaning, Words, after, stored}
 use Rattle.view.specs.Seen.{takes_at}
 use Rattle.view.specs.Writes.{Write, after_writes}
 use Rattle.step.specs.Laws.{SameMap, Writable, WritesOnly}

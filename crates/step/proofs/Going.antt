@@ -1,5 +1,5 @@
 -- Where P goes.
-use Rattle.std.proofs.Common.{◌≡◌, ℕ, suc, ◌<◌, Bool, true, false, cond, ◌⊎◌, List, [], ◌∷◌, Some, None, Ok, Err, Option, Result, sym, refl, ap, ◌∙◌, inl, inr, arith, lit<}
+use Rattle.std.proofs.Common.{◌≡◌, ℕ, suc, ◌<◌, Bool, true, false, cond, ◌⊎◌, [], ◌∷◌, Some, None, Ok, Err, Option, Result, refl, ap, inl, inr, arith, lit<}
 use Rattle.answers.specs.declared.fault.Fault.{Fault}
 use Rattle.instruction.specs.Decode.{decoded}
 use Rattle.instruction.specs.declared.action.Action.{Action}

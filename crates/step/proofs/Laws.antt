@@ -1,5 +1,5 @@
 -- All that holds of an instruction, from what the rule of the table leaves.
-use Rattle.std.proofs.Common.{◌≡◌, ℕ, Result}
+use Rattle.std.proofs.Common.{ℕ, Result}
 use Rattle.registers.specs.declared.keys.Keys.{Keys}
 use Rattle.registers.specs.declared.registers.Registers.{Registers}
 use Rattle.registers.specs.declared.trap.Trap.{Trap}

@@ -1,5 +1,5 @@
 -- What traps changes nothing.
-use Rattle.std.proofs.Common.{◌≡◌, ℕ, List, [], Ok, Err, Result, arith}
+use Rattle.std.proofs.Common.{◌≡◌, ℕ, Ok, Err, Result, arith}
 use Rattle.registers.specs.declared.registers.Registers.{Registers}
 use Rattle.registers.specs.declared.trap.Trap.{Trap}
 use Rattle.rules.specs.Carried.{Carried}

@@ -1,6 +1,5 @@
 -- What holds of every instruction, whatever its row of the table says.
 use Rattle.std.specs.Prelude.{◌≡◌, ℕ, ◌^◌, ◌<◌, ◌⊎◌, Some, Ok, Err, Result}
-use Rattle.answers.specs.declared.fault.Fault.{Fault}
 use Rattle.instruction.specs.Decode.{decoded}
 use Rattle.instruction.specs.declared.action.Action.{Action}
 use Rattle.instruction.specs.declared.action.Action.TheVariants as actions

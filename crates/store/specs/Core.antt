@@ -1,6 +1,5 @@
 -- Cores: each address is its own cell.
 use Rattle.std.specs.Prelude.{◌≡◌, ℕ, ◌^◌, ◌<◌, ◌≤◌, Bool, true, false, cond, Ok, Err, Result, nat_lt, refl}
-use Rattle.std.proofs.Common.{arith}
 use Rattle.answers.specs.declared.fault.Fault.{Fault}
 use Rattle.answers.specs.declared.layer.Layer.{Layer}
 use Rattle.std.proofs.lemmas.Bool.{lt-ltb, le-ltb, ltb-true, cond_both}

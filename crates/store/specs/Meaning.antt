@@ -1,5 +1,5 @@
 -- What a store means, apart from how it holds its words.
-use Rattle.std.specs.Prelude.{◌≡◌, ℕ, ◌%◌, ◌^◌, ◌<◌, ◌≤◌, Bool, true, false, cond, Ok, Err, Result, ◌==◌}
+use Rattle.std.specs.Prelude.{◌≡◌, ℕ, ◌%◌, ◌^◌, ◌<◌, ◌≤◌, cond, Ok, Err, Result, ◌==◌}
 use Rattle.answers.specs.declared.cause.Cause.TheVariants.{Beyond}
 use Rattle.answers.specs.declared.fault.Fault.{Fault}
 use Rattle.answers.specs.declared.layer.Layer.{Layer}

@@ -1,5 +1,5 @@
 -- A write that a core takes puts one word.
-use Rattle.std.specs.Prelude.{◌≡◌, ℕ, ◌%◌, ◌^◌, ◌<◌, min, Bool, true, false, cond, ◌≢◌, List, length, Ok, Err, nat_lt, slice_index, refl}
+use Rattle.std.specs.Prelude.{◌≡◌, ℕ, ◌%◌, ◌^◌, ◌<◌, min, Bool, true, false, cond, List, length, Ok, Err, nat_lt, slice_index, refl}
 use Rattle.std.proofs.Common.{ap, sym, length-set, ⊎_elim, arith}
 use Rattle.std.proofs.Math.Path.{fun_ext}
 use Rattle.answers.specs.declared.layer.Layer.TheVariants as layers

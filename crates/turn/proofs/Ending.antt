@@ -3,8 +3,7 @@ use Rattle.std.proofs.Common.{◌≡◌, ℕ, ◌+◌, ◌-◌, ◌<◌, ◌≤�
 use Rattle.registers.specs.declared.keys.Keys.{Keys}
 use Rattle.registers.specs.declared.record.Record.{Record}
 use Rattle.registers.specs.declared.record.State.{State}
-use Rattle.registers.specs.declared.record.State.TheVariants.{Running, Stopped}
-use Rattle.registers.specs.declared.registers.Registers.{Registers}
+use Rattle.registers.specs.declared.record.State.TheVariants.{Running}
 use Rattle.registers.specs.declared.trap.Trap.{Trap}
 use Rattle.rules.specs.Sight.{Done, sight, left, writes as rule_writes}
 use Rattle.rules.specs.Table.{step}
@@ -12,7 +11,7 @@ use Rattle.store.specs.Meaning.{Meaning}
 use Rattle.turn.proofs.Joining.{run_joins}
 use Rattle.turn.proofs.Lasting.{run_lasts}
 use Rattle.turn.proofs.Runs.{after_join, with_join, preceded_twice, preceded_none, run_none, run_more, run_stop}
-use Rattle.turn.specs.Runs.{Lasts, Run, run, preceded, ended}
+use Rattle.turn.specs.Runs.{Run, run, preceded, ended}
 use Rattle.turn.specs.Turns.{Advanced, Ran, Turning, turns, carried, state_after, state_trap, stepped_state}
 use Rattle.turn.specs.declared.turned.Turned.{Turned}
 use Rattle.view.specs.Writes.{Write, after_writes, with_writes}

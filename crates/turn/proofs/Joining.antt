@@ -1,5 +1,5 @@
 -- Runs one after the other.
-use Rattle.std.proofs.Common.{◌≡◌, ℕ, zero, suc, ◌+◌, List, [], ◌++◌, Some, None, Ok, Err, Option, Result, sym, refl, ap, ◌∙◌, suc-add, zero-add}
+use Rattle.std.proofs.Common.{◌≡◌, ℕ, zero, suc, ◌+◌, List, ◌++◌, Some, None, Ok, Err, Option, Result, sym, refl, ap, ◌∙◌, suc-add, zero-add}
 use Rattle.registers.specs.declared.keys.Keys.{Keys}
 use Rattle.registers.specs.declared.registers.Registers.{Registers}
 use Rattle.registers.specs.declared.trap.Trap.{Trap}
@@ -7,7 +7,7 @@ use Rattle.rules.specs.Sight.{Done, sight}
 use Rattle.rules.specs.Table.{step}
 use Rattle.store.specs.Meaning.{Meaning}
 use Rattle.turn.proofs.Runs.{after_join, preceded_twice, preceded_none, run_first, run_none}
-use Rattle.turn.specs.Runs.{Joins, Run, run, preceded, ended, carried_on, continued}
+use Rattle.turn.specs.Runs.{Run, run, preceded, ended, carried_on, continued}
 use Rattle.view.specs.Writes.{Write, after_writes}
 
 -- going on after a run that d's instruction precedes

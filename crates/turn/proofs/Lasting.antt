@@ -1,5 +1,5 @@
 -- A run as a relation.
-use Rattle.std.proofs.Common.{◌≡◌, ℕ, zero, suc, ◌+◌, ◌<◌, ◌⊎◌, List, [], ◌++◌, Some, None, Ok, Err, Option, Result, sym, refl, ap, ◌∙◌, subst, inl, inr, one-add, arith}
+use Rattle.std.proofs.Common.{◌≡◌, ℕ, zero, suc, ◌+◌, ◌<◌, ◌⊎◌, Some, None, Ok, Err, Option, Result, refl, inl, inr, one-add, arith}
 use Rattle.registers.specs.declared.keys.Keys.{Keys}
 use Rattle.registers.specs.declared.registers.Registers.{Registers}
 use Rattle.registers.specs.declared.trap.Trap.{Trap}
@@ -8,7 +8,7 @@ use Rattle.rules.specs.Table.{step}
 use Rattle.store.specs.Meaning.{Meaning}
 use Rattle.turn.proofs.Runs.{after_join}
 use Rattle.turn.specs.Runs.{Carries, Lasts, Run, run, preceded, ended, carried_on}
-use Rattle.view.specs.Writes.{Write, after_writes}
+use Rattle.view.specs.Writes.{after_writes}
 
 -- how a turn of n ends
 abbrev Ends : ℕ → Keys → ℕ → ℕ → Option Trap → Registers → Meaning → Type 0

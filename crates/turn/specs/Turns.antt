@@ -4,7 +4,6 @@ use Rattle.registers.specs.declared.keys.Keys.{Keys}
 use Rattle.registers.specs.declared.record.Record.{Record}
 use Rattle.registers.specs.declared.record.State.{State}
 use Rattle.registers.specs.declared.record.State.TheVariants.{Running, Stopped}
-use Rattle.registers.specs.declared.registers.Registers.{Registers}
 use Rattle.registers.specs.declared.trap.Trap.{Trap}
 use Rattle.rules.specs.Sight.{Done, sight, left, writes}
 use Rattle.rules.specs.Table.{step}

@@ -1,4 +1,4 @@
-use Rattle.std.proofs.Common.{sym, refl, rules}
+use Rattle.std.proofs.Common.{sym, refl}
 use Rattle.rules.specs.Carried.{Carried}
 use Rattle.rules.specs.Sight.{sight}
 use Rattle.rules.specs.Table.{step}

@@ -1,4 +1,3 @@
-use Rattle.std.proofs.Common.{rules}
 use Rattle.turn.proofs.Ending.{at_length, begun, more, stopped}
 use Rattle.turn.proofs.running.run.Goals as goal
 

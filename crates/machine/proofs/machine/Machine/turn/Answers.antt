@@ -1,4 +1,4 @@
-use Rattle.std.proofs.Common.{◌≡◌, ◌≤◌, sym, ◌∙◌, arith}
+use Rattle.std.proofs.Common.{◌≤◌, sym, ◌∙◌, arith}
 use Rattle.machine.proofs.Accepting.{accepted_by, made}
 use Rattle.machine.proofs.machine.Machine.turn.Goals as goal
 
