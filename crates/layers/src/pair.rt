@@ -5,7 +5,7 @@ ghost use Rattle.layers.specs.Writing.{pair_writes};
 ghost use Rattle.store.specs.Meaning.{beyond};
 
 use answers::{Cause, Fault, Layer};
-use store::{Store, WORDS};
+use store::{Faithful, Store, WORDS};
 
 // One store's addresses and cells before another's.
 #[derive(Drop)]
@@ -36,8 +36,6 @@ impl<F: Store, S: Store> Store for Pair<F, S> {
     ghost wrote = { λ s a v. written (F.Store.meaning s.first) F.Store.wrote S.Store.wrote s a v };
 
     ghost sound = { λ s. paired_sound (F.Store.meaning s.first) (S.Store.meaning s.second) (F.Store.sound s.first) (S.Store.sound s.second) };
-
-    ghost writes = { λ s a v h. pair_writes F.Store.meaning S.Store.meaning F.Store.wrote S.Store.wrote s a v (F.Store.sound s.first) (F.Store.writes s.first a v) (λ b. S.Store.writes s.second b v) h };
 
     fn size(&self) -> u32 {
         (self.first.size() + self.second.size()).min(WORDS)
@@ -86,4 +84,8 @@ fn past(address: u32) -> Fault
         layer: Pair::<(), ()>::NUMBER,
         address,
     }
+}
+
+impl<F: Faithful, S: Faithful> Faithful for Pair<F, S> {
+    ghost writes = { λ s a v h. pair_writes F.Store.meaning S.Store.meaning F.Store.wrote S.Store.wrote s a v (F.Store.sound s.first) (F.Faithful.writes s.first a v) (λ b. S.Faithful.writes s.second b v) h };
 }

@@ -7,7 +7,7 @@ ghost use Rattle.layers.specs.Writing.{guarded_taken, protected_writes};
 
 use crate::range::Ranges;
 use answers::{Cause, Fault, Layer};
-use store::Store;
+use store::{Faithful, Store};
 
 // The store below, but that the addresses in the ranges take no write.
 #[derive(Drop)]
@@ -38,8 +38,6 @@ impl<C: Store> Store for Protection<C> {
     ghost wrote = { λ s a v. record { below = C.Store.wrote s.below a v; ranges = s.ranges } };
 
     ghost sound = { λ s. protected_sound (listed s.ranges) (C.Store.meaning s.below) (C.Store.sound s.below) };
-
-    ghost writes = { λ s a v h. protected_writes (listed s.ranges) (C.Store.meaning s.below) (C.Store.meaning (C.Store.wrote s.below a v)) a v (C.Store.writes s.below a v (guarded_taken _ _ _ h)) };
 
     fn size(&self) -> u32 {
         self.below.size()
@@ -73,4 +71,8 @@ fn unprotected(ranges: &Ranges, address: u32) -> Result<(), Fault>
     } else {
         Ok(())
     }
+}
+
+impl<C: Faithful> Faithful for Protection<C> {
+    ghost writes = { λ s a v h. protected_writes (listed s.ranges) (C.Store.meaning s.below) (C.Store.meaning (C.Store.wrote s.below a v)) a v (C.Faithful.writes s.below a v (guarded_taken _ _ _ h)) };
 }

@@ -9,7 +9,7 @@ use crate::records::Records;
 use answers::Refusal;
 use pages::{Group, Relocation, Setting};
 use registers::{Keys, Record};
-use store::Store;
+use store::Faithful;
 use turn::Turned;
 
 // The most instructions of a turn.
@@ -22,7 +22,7 @@ pub struct Machine<C> {
     store: Relocation<C>,
 }
 
-impl<C: Store> Machine<C> {
+impl<C: Faithful> Machine<C> {
     pub fn new(core: C) -> Machine<C>
         ensures model { model C.Store.meaning result ≡ record { records = replicate 8 blank; pages = replicate 128 Absent; core = C.Store.meaning core } }
         ensures core { result.store.below ≡ core }

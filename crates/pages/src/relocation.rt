@@ -8,7 +8,7 @@ ghost use Rattle.pages.specs.declared.descriptor.Descriptor.TheVariants.{Absent}
 use crate::file::PageFile;
 use crate::setting::Setting;
 use answers::{Fault, Layer, Refusal};
-use store::Store;
+use store::{Faithful, Store};
 
 // The store below, by way of the page file.
 #[derive(Drop)]
@@ -56,8 +56,6 @@ impl<C: Store> Store for Relocation<C> {
 
     ghost sound = { λ s. relocated_sound s.pages.entries (C.Store.meaning s.below) (C.Store.sound s.below) };
 
-    ghost writes = { λ s a v h. relocated_writes s.pages.entries C.Store.meaning C.Store.wrote s.below a v (λ b. C.Store.writes s.below b v) h };
-
     fn size(&self) -> u32 {
         store::WORDS
     }
@@ -76,4 +74,8 @@ impl<C: Store> Store for Relocation<C> {
         let place = self.pages.locate_writable(address)?;
         self.below.write(place.address, value)
     }
+}
+
+impl<C: Faithful> Faithful for Relocation<C> {
+    ghost writes = { λ s a v h. relocated_writes s.pages.entries C.Store.meaning C.Store.wrote s.below a v (λ b. C.Faithful.writes s.below b v) h };
 }

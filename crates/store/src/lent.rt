@@ -1,5 +1,6 @@
 ghost use Rattle.store.specs.Lent.{behind};
 
+use crate::faithful::Faithful;
 use crate::store::Store;
 use answers::{Fault, Layer};
 
@@ -12,8 +13,6 @@ impl<C: Store> Store for &mut C {
     ghost wrote = { λ s a v. behind s (C.Store.wrote s.now a v) };
 
     ghost sound = { λ s. C.Store.sound s.now };
-
-    ghost writes = { λ s a v h. C.Store.writes s.now a v h };
 
     fn size(&self) -> u32 {
         (**self).size()
@@ -30,4 +29,8 @@ impl<C: Store> Store for &mut C {
     fn write(&mut self, address: u32, value: u32) -> Result<(), Fault> {
         (**self).write(address, value)
     }
+}
+
+impl<C: Faithful> Faithful for &mut C {
+    ghost writes = { λ s a v h. C.Faithful.writes s.now a v h };
 }

@@ -5,6 +5,7 @@ ghost use Rattle.store.specs.Lent.{behind};
 ghost use Rattle.store.specs.Bytes.{packed_writes};
 ghost use Rattle.store.specs.Packed.{packed, packed_sound, spread, word_at};
 
+use crate::faithful::Faithful;
 use crate::store::{Store, WORDS};
 use answers::{Cause, Fault, Layer};
 
@@ -32,8 +33,6 @@ impl Store for Packed<'_> {
     ghost wrote = { λ s a v. record { bytes = behind s.bytes (spread s.bytes.now a v) } };
 
     ghost sound = { λ s. packed_sound s.bytes.now };
-
-    ghost writes = { λ s a v h. packed_writes s.bytes.now a v h };
 
     fn size(&self) -> u32 {
         (self.bytes.len() / 3).min(WORDS as usize) as u32
@@ -65,4 +64,8 @@ impl Store for Packed<'_> {
         self.bytes[i + 2] = (value % 256) as u8;
         Ok(())
     }
+}
+
+impl Faithful for Packed<'_> {
+    ghost writes = { λ s a v h. packed_writes s.bytes.now a v h };
 }

@@ -5,6 +5,7 @@ ghost use Rattle.store.specs.Lent.{behind};
 ghost use Rattle.store.specs.Writing.{plain_writes};
 ghost use Rattle.store.specs.Plain.{plain, plain_sound, rewritten};
 
+use crate::faithful::Faithful;
 use crate::store::{Store, WORDS};
 use answers::{Cause, Fault, Layer};
 
@@ -33,8 +34,6 @@ impl Store for Plain<'_> {
 
     ghost sound = { λ s. plain_sound s.words.now };
 
-    ghost writes = { λ s a v h. plain_writes s.words.now a v h };
-
     fn size(&self) -> u32 {
         self.words.len().min(WORDS as usize) as u32
     }
@@ -61,4 +60,8 @@ impl Store for Plain<'_> {
         self.words[address as usize] = value % 0x100_0000;
         Ok(())
     }
+}
+
+impl Faithful for Plain<'_> {
+    ghost writes = { λ s a v h. plain_writes s.words.now a v h };
 }

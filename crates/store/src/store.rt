@@ -1,4 +1,4 @@
-ghost use Rattle.std.specs.Prelude.{◌≡◌, ℕ, Ok};
+ghost use Rattle.std.specs.Prelude.{◌≡◌, ℕ};
 ghost use Rattle.store.specs.Meaning.{Meaning, Sound, reads, after, settled};
 
 use answers::{Fault, Layer};
@@ -17,9 +17,6 @@ pub trait Store {
 
     // What every store keeps; each `impl` proves it.
     ghost sound: { (s : Self) → Sound (meaning s) };
-
-    // A write that is taken changes the meaning by the one word.
-    ghost writes: { (s : Self) (a v : ℕ) → (meaning s).takes a ≡ Ok tt → meaning (wrote s a v) ≡ after (Ok tt) (meaning s) a v };
 
     fn size(&self) -> u32
         ensures { result ≡ (meaning self.now).size };
