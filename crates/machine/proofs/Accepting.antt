@@ -1,7 +1,7 @@
 -- An accepted turn, as the calls of a model say it.
 use Rattle.std.proofs.Common.{◌≡◌, ℕ, ◌<◌, ◌≤◌, Bool, true, false, cond, ltb, List, set, Some, None, Ok, Option, refl, ap, ◌∙◌, subst, arith}
 use Rattle.machine.proofs.Cores.{Kept, kept, whole, wrote_whole}
-use Rattle.machine.specs.Calls.{after_run, answered, turn_answer, turn_refusal, turn_run, unless_refused}
+use Rattle.machine.specs.Calls.{after_run, answered, store_after, turn_answer, turn_refusal, turn_run, unless_refused}
 use Rattle.machine.specs.Models.{Model, entry_of}
 use Rattle.pages.specs.declared.file.PageFile.{PageFile}
 use Rattle.pages.specs.declared.relocation.Relocation.{Relocation}
@@ -63,17 +63,19 @@ module _ {C : Type 0} (meaning : C → Meaning) (wrote : C → ℕ → ℕ → C
       → (rs' : List Record) → rs' ≡ set rs g x'
       → (Ok a ≡ answered (turn_refusal start g n k) (turn_answer (turn_run start g n k)))
       × (record { records = rs'; pages = s'.pages.entries; core = meaning s'.below } ≡ unless_refused (turn_refusal start g n k) (after_run start g (turn_run start g n k)) start)
+      × (s' ≡ unless_refused (turn_refusal start g n k) (store_after meaning wrote g (turn_run start g n k) s) s)
   accepted_turn b c d e h rs' r =
       let t = running (entry_of rs g) (entry_of rs g).state refl h in
       let y = t.1 in
       let o = not_refused start g n k b c d e t.0 in
-      (rw o (ap (λ (u : Turned). Ok u) (same_turned a _ _ y.count y.trap)), rw o (left y rs' r))
+      (rw o (ap (λ (u : Turned). Ok u) (same_turned a _ _ y.count y.trap)), rw o (left y rs' r), rw o y.whole)
 
   -- the same, with the values by the names that the code gives them
   pub accepted_by : (j : ℕ) (q : Keys) (x : Record) → j ≡ g → q ≡ keys k → x ≡ entry_of rs j → j < 8 → 1 ≤ n → n ≤ 10000 → k < 64
       → Turning (whole meaning wrote law) (wrote_whole meaning wrote law) q j n x x' s s' (Some a) → (rs' : List Record) → rs' ≡ set rs j x'
       → (Ok a ≡ answered (turn_refusal start g n k) (turn_answer (turn_run start g n k)))
       × (record { records = rs'; pages = s'.pages.entries; core = meaning s'.below } ≡ unless_refused (turn_refusal start g n k) (after_run start g (turn_run start g n k)) start)
+      × (s' ≡ unless_refused (turn_refusal start g n k) (store_after meaning wrote g (turn_run start g n k) s) s)
   accepted_by j q x e f y b c d l h rs' r =
       let i : g ≤ 7 = omega arith in
       let o : k ≤ 63 = omega arith in

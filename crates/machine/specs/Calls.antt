@@ -5,17 +5,19 @@ use Rattle.answers.specs.declared.refusal.Refusal.TheVariants as refusals
 use Rattle.machine.specs.Loads.{load_fits, loaded}
 use Rattle.machine.specs.Models.{Model, record_of}
 use Rattle.machine.specs.declared.load.Load.{Load}
-use Rattle.pages.specs.Relocation.{relocated}
+use Rattle.pages.specs.Pages.{located}
+use Rattle.pages.specs.Relocation.{relocated, written_below}
+use Rattle.pages.specs.declared.relocation.Relocation.{Relocation}
 use Rattle.pages.specs.Settings.{entered}
 use Rattle.pages.specs.declared.setting.Setting.{Setting}
 use Rattle.registers.specs.Keys.{keys}
 use Rattle.registers.specs.declared.record.State.{State}
 use Rattle.registers.specs.declared.record.State.TheVariants.{Running, Stopped}
-use Rattle.store.specs.Meaning.{with_word}
+use Rattle.store.specs.Meaning.{Meaning, with_word}
 use Rattle.turn.specs.Runs.{Run, run}
 use Rattle.turn.specs.Turns.{state_after}
 use Rattle.turn.specs.declared.turned.Turned.{Turned}
-use Rattle.view.specs.Writes.{after_writes}
+use Rattle.view.specs.Writes.{after_writes, with_writes}
 
 -- the answer, where the call is not refused
 abbrev pub answered : {X : Type 0} → Option Refusal → X → Result X Refusal
@@ -57,6 +59,14 @@ after_run m g x = record {
   pages = m.pages;
   core = with_word m.core (after_writes g x.writes (relocated m.pages m.core)).word;
 }
+
+-- the core under its page file after group g's run, as a whole value: the caller's memory with it
+abbrev pub store_after : {C : Type 0} → (C → Meaning) → (C → ℕ → ℕ → C) → ℕ → Run → Relocation C → Relocation C
+store_after {C} meaning wrote g x s =
+    with_writes
+    (λ (t : Relocation C). relocated t.pages.entries (meaning t.below))
+    (λ (t : Relocation C) (a v : ℕ). let u : Relocation C = record { below = written_below wrote t.below (located t.pages.entries a) v; pages = t.pages } in u)
+    g x.writes s
 
 -- a register load: 1, 5
 abbrev pub load_refusal : ℕ → Load → Option Refusal

@@ -1,5 +1,5 @@
 ghost use Rattle.std.specs.Prelude.{◌≡◌, replicate};
-ghost use Rattle.machine.specs.Calls.{after_load, after_run, after_setting, answered, load_refusal, report_refusal, turn_answer, turn_refusal, turn_run, unless_refused};
+ghost use Rattle.machine.specs.Calls.{after_load, after_run, after_setting, answered, load_refusal, report_refusal, store_after, turn_answer, turn_refusal, turn_run, unless_refused};
 ghost use Rattle.machine.specs.Models.{Model, blank, model, record_of};
 ghost use Rattle.pages.specs.Settings.{accepted};
 ghost use Rattle.pages.specs.declared.descriptor.Descriptor.TheVariants.{Absent};
@@ -36,6 +36,7 @@ impl<C: Faithful> Machine<C> {
     // Up to `length` instructions of a group, or as far as a trap, which stops it.
     pub fn turn(&mut self, group: u32, length: u32, keys: u32) -> Result<Turned, Refusal>
         ensures answer { result ≡ answered (turn_refusal (model C.Store.meaning self.old) group length keys) (turn_answer (turn_run (model C.Store.meaning self.old) group length keys)) }
+        ensures store { self.new.store ≡ unless_refused (turn_refusal (model C.Store.meaning self.old) group length keys) (store_after C.Store.meaning C.Store.wrote group (turn_run (model C.Store.meaning self.old) group length keys) self.old.store) self.old.store }
         ensures model { model C.Store.meaning self.new ≡ unless_refused (turn_refusal (model C.Store.meaning self.old) group length keys) (after_run (model C.Store.meaning self.old) group (turn_run (model C.Store.meaning self.old) group length keys)) (model C.Store.meaning self.old) }
     {
         let Some(group) = Group::new(group) else {

@@ -12,4 +12,4 @@ returns g c =
     c.args.group c.args.length c.args.keys c.turn.new.record c.in-Some-turn.turned
     c.in-Some.group.number c.in-Some-new.keys c.get-record.result c.in-Some.ensures k.1 c.get-record.ensures c.in-Some.group.fits low high k.0
     c.in-Some-turn.ensures c.put.new.self.all c.put.ensures in
-    record { answer = z.0; model = z.1 }
+    record { answer = z.0; store = z.2; model = z.1 }
