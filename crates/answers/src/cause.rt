@@ -4,36 +4,22 @@ ghost use Rattle.answers.specs.Numbers.{cause_number};
 
 use std::fmt;
 
-// Why a store gives a fault.
+// Why a store gives a fault, by number.
 #[derive(Clone, Copy, PartialEq, Eq, Debug)]
 pub enum Cause {
     // no descriptor, or a quarter that is not below its length
-    Unmapped,
+    Unmapped = 3,
     // a write where none is taken
-    Protected,
+    Protected = 4,
     // an address at or above the size
-    Beyond,
+    Beyond = 5,
 }
 
 impl Cause {
     pub fn number(self) -> u8
         ensures { result ≡ cause_number self }
     {
-        match self {
-            Cause::Unmapped => 3,
-            Cause::Protected => 4,
-            Cause::Beyond => 5,
-        }
-    }
-
-    pub(crate) fn name(self) -> &'static str
-        ensures { result.now ≡ cause_name self }
-    {
-        match self {
-            Cause::Unmapped => "no page there",
-            Cause::Protected => "write not taken",
-            Cause::Beyond => "no such address",
-        }
+        self as u8
     }
 }
 
@@ -41,6 +27,10 @@ impl fmt::Display for Cause {
     ghost output = { λ x. Some (cause_name x) };
 
     fn fmt<W: fmt::Write>(&self, f: &mut fmt::Formatter<W>) -> fmt::Result {
-        f.write_str(self.name())
+        f.write_str(match self {
+            Cause::Unmapped => "no page there",
+            Cause::Protected => "write not taken",
+            Cause::Beyond => "no such address",
+        })
     }
 }

@@ -31,24 +31,18 @@ impl Code {
             Code::Indirect => 6,
         }
     }
-
-    fn name(self) -> &'static str
-        ensures { result.now ≡ code_name self }
-    {
-        match self {
-            Code::Length => "length reached",
-            Code::Executive => "executive instruction",
-            Code::Illegal => "illegal instruction",
-            Code::Store(cause) => cause.name(),
-            Code::Indirect => "too many indirect words",
-        }
-    }
 }
 
 impl fmt::Display for Code {
     ghost output = { λ x. Some (code_name x) };
 
     fn fmt<W: fmt::Write>(&self, f: &mut fmt::Formatter<W>) -> fmt::Result {
-        f.write_str(self.name())
+        match self {
+            Code::Length => f.write_str("length reached"),
+            Code::Executive => f.write_str("executive instruction"),
+            Code::Illegal => f.write_str("illegal instruction"),
+            Code::Store(cause) => write!(f, "{cause}"),
+            Code::Indirect => f.write_str("too many indirect words"),
+        }
     }
 }

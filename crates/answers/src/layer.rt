@@ -4,39 +4,21 @@ ghost use Rattle.answers.specs.Numbers.{layer_number};
 
 use std::fmt;
 
-// Which store gave a fault.
+// Which store gave a fault, by number.
 #[derive(Clone, Copy, PartialEq, Eq, Debug)]
 pub enum Layer {
-    Plain,
-    Packed,
-    Pair,
-    Protection,
-    Relocation,
+    Plain = 1,
+    Packed = 2,
+    Pair = 3,
+    Protection = 4,
+    Relocation = 5,
 }
 
 impl Layer {
     pub fn number(self) -> u8
         ensures { result ≡ layer_number self }
     {
-        match self {
-            Layer::Plain => 1,
-            Layer::Packed => 2,
-            Layer::Pair => 3,
-            Layer::Protection => 4,
-            Layer::Relocation => 5,
-        }
-    }
-
-    fn name(self) -> &'static str
-        ensures { result.now ≡ layer_name self }
-    {
-        match self {
-            Layer::Plain => "plain core",
-            Layer::Packed => "packed core",
-            Layer::Pair => "pair",
-            Layer::Protection => "protection",
-            Layer::Relocation => "relocation",
-        }
+        self as u8
     }
 }
 
@@ -44,6 +26,12 @@ impl fmt::Display for Layer {
     ghost output = { λ x. Some (layer_name x) };
 
     fn fmt<W: fmt::Write>(&self, f: &mut fmt::Formatter<W>) -> fmt::Result {
-        f.write_str(self.name())
+        f.write_str(match self {
+            Layer::Plain => "plain core",
+            Layer::Packed => "packed core",
+            Layer::Pair => "pair",
+            Layer::Protection => "protection",
+            Layer::Relocation => "relocation",
+        })
     }
 }

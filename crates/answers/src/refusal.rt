@@ -72,11 +72,13 @@ impl Refusal {
             _ => None,
         }
     }
+}
 
-    fn name(self) -> &'static str
-        ensures { result.now ≡ refusal_name self }
-    {
-        match self {
+impl fmt::Display for Refusal {
+    ghost output = { λ x. Some (refusal_name x) };
+
+    fn fmt<W: fmt::Write>(&self, f: &mut fmt::Formatter<W>) -> fmt::Result {
+        f.write_str(match self {
             Refusal::Group => "group above 7",
             Refusal::Length => "turn length not 1 to 10000",
             Refusal::Keys => "keys above 63",
@@ -92,14 +94,6 @@ impl Refusal {
             Refusal::ImageMark => "image without the mark RCK",
             Refusal::ImageVersion => "image version not 1",
             Refusal::ImageLength => "image length does not fit its words",
-        }
-    }
-}
-
-impl fmt::Display for Refusal {
-    ghost output = { λ x. Some (refusal_name x) };
-
-    fn fmt<W: fmt::Write>(&self, f: &mut fmt::Formatter<W>) -> fmt::Result {
-        f.write_str(self.name())
+        })
     }
 }

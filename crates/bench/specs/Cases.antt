@@ -1,13 +1,11 @@
 -- Ten cases worked by hand, of the definitions that the contracts of the code cite.
-use Rattle.std.specs.Prelude.{◌≡◌, ℕ, ◌+◌, ◌*◌, ◌^◌, true, List, [], ◌∷◌, Ok, Err, slice_index_or}
+use Rattle.std.specs.Prelude.{◌≡◌, ℕ, ◌+◌, ◌*◌, ◌^◌, true, List, [], ◌∷◌, Some, None, Ok, Err, Option, slice_index_or}
 use Rattle.answers.specs.Numbers.{cause_number}
 use Rattle.answers.specs.declared.cause.Cause.TheVariants.{Unmapped}
 use Rattle.answers.specs.declared.layer.Layer.TheVariants as layers
 use Rattle.ones.specs.Numbers.{address, word, counted, plus}
 use Rattle.ones.specs.declared.number.Ones.{Ones}
 use Rattle.pages.specs.Pages.{located}
-use Rattle.pages.specs.declared.descriptor.Descriptor.{Descriptor}
-use Rattle.pages.specs.declared.descriptor.Descriptor.TheVariants.{Absent, Mapped}
 use Rattle.pages.specs.declared.descriptor.Window.{Window}
 use Rattle.registers.specs.Registers.{with_a, with_q, with_p, on}
 use Rattle.registers.specs.declared.keys.Keys.{Keys}
@@ -37,7 +35,7 @@ pub record WorkedCases : Type 0 where
       × (s.reads r.p ≡ Ok (coded 0o033 m) → step keys s r ≡ quiet (with_p r m))
       × (s.reads r.p ≡ Ok (coded 0o032 m) → step keys s r ≡ quiet (on 1 r))
   -- 5. where entry 0 of group 0 is page 3, start 1, length 2, address 1,023 is core address 7,679, and 1,024 is cause 3
-  pub page_ends : (ds : List Descriptor) (w : Window) → slice_index_or ds 0 Absent ≡ Mapped w → w.page ≡ 3 → w.start ≡ 1 → w.length ≡ 2
+  pub page_ends : (ds : List (Option Window)) (w : Window) → slice_index_or ds 0 None ≡ Some w → w.page ≡ 3 → w.start ≡ 1 → w.length ≡ 2
       → (located ds 1023 ≡ Ok (record { address = 7679; write = w.write }))
       × (located ds 1024 ≡ Err (record { cause = Unmapped; layer = layers.Relocation; address = 1024 }))
       × (cause_number Unmapped ≡ 3)

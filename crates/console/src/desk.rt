@@ -1,63 +1,28 @@
-// What a deck has built and chosen before its machine is made.
-use answers::Refusal;
-use deck::{Command, Style};
+// What a deck builds and chooses before its machine is made.
+use crate::failure::Failure;
+use crate::printout::Printout;
+use crate::run::Obey;
+use deck::Command;
 use image::Image;
 use layers::Ranges;
+use printing::call::Call;
 use session::{Memory, Misplaced, Pile};
-use std::alloc::Global;
+use std::mem;
 
 #[derive(Drop)]
-pub(crate) struct Desk {
-    pub(crate) style: Style,
-    pub(crate) pile: Pile,
+pub(crate) struct Desk<'a> {
+    pub(crate) printout: Printout<'a>,
     pub(crate) ranges: Option<Ranges>,
+    pile: Pile,
 }
 
-// What a command asks to be printed, or done next.
-#[derive(Drop)]
-pub(crate) enum Reply {
-    Nothing,
-    Image {
-        keys: u8,
-        length: u16,
-        words: Vec<u8>,
-    },
-    ImageRefused(Refusal),
-    Range(Result<(), Refusal>),
-    Read(u32),
-    List {
-        address: u32,
-        count: u32,
-    },
-    Machine,
-}
-
-impl Desk {
-    pub(crate) fn new() -> Desk {
+impl<'a> Desk<'a> {
+    pub(crate) fn new(printout: Printout<'a>) -> Desk<'a> {
         Desk {
-            style: Style::Console,
-            pile: Pile::Nothing,
+            printout,
             ranges: None,
+            pile: Pile::Nothing,
         }
-    }
-
-    pub(crate) fn obey(&mut self, heap: Global, command: Command) -> Result<Reply, Misplaced> {
-        match command {
-            Command::Record(style) => self.style = style,
-            Command::Plain(count) => self.add(Memory::plain(heap, count)?)?,
-            Command::Packed(count) => self.add(Memory::packed(heap, count)?)?,
-            Command::Words { offset, words } => self.pile.put_words(offset as usize, &words)?,
-            Command::Bytes { offset, bytes } => self.pile.put_bytes(offset as usize, &bytes)?,
-            Command::Pair => self.pile.pair()?,
-            Command::Protect => self.protect()?,
-            Command::Range { low, high } => return self.add_range(low, high),
-            Command::Image(bytes) => return self.take_image(heap, &bytes),
-            Command::Read(address) => return Ok(Reply::Read(address)),
-            Command::List { address, count } => return Ok(Reply::List { address, count }),
-            Command::Machine(kind) => return self.machine(kind),
-            _ => return Err(Misplaced::Unmade),
-        }
-        Ok(Reply::Nothing)
     }
 
     fn add(&mut self, memory: Memory) -> Result<(), Misplaced> {
@@ -76,43 +41,64 @@ impl Desk {
         Ok(())
     }
 
-    fn add_range(&mut self, low: u32, high: u32) -> Result<Reply, Misplaced> {
-        match self.ranges.take() {
-            Some(mut ranges) => {
-                let answer = ranges.add(low, high);
-                self.ranges = Some(ranges);
-                Ok(Reply::Range(answer))
-            }
-            None => Err(Misplaced::Unprotected),
-        }
+    fn add_range(&mut self, low: u32, high: u32) -> Result<(), Failure> {
+        let Some(ranges) = &mut self.ranges else {
+            return Err(Failure::from(Misplaced::Unprotected));
+        };
+        let answer = ranges.add(low, high);
+        Ok(self.printout.done(Call::Range, answer)?)
     }
 
-    fn machine(&self, kind: u32) -> Result<Reply, Misplaced> {
+    fn take_pile(&mut self, kind: u32) -> Result<Pile, Misplaced> {
         if kind != 0 {
             return Err(Misplaced::Kind);
         }
         self.pile.whole()?;
-        Ok(Reply::Machine)
+        Ok(mem::replace(&mut self.pile, Pile::Nothing))
     }
 
-    fn take_image(&mut self, heap: Global, bytes: &[u8]) -> Result<Reply, Misplaced> {
-        match Image::read(bytes) {
-            Ok(image) => {
-                self.pile.keep_image(copy(heap, image.words)?);
-                Ok(Reply::Image {
-                    keys: image.keys,
-                    length: image.length,
-                    words: copy(heap, image.words)?,
-                })
-            }
-            Err(refusal) => Ok(Reply::ImageRefused(refusal)),
+    fn take_image(&mut self, bytes: &[u8]) -> Result<(), Failure> {
+        let answer = Image::read(bytes);
+        if let Ok(image) = answer {
+            let words = Vec::from_slice(self.printout.heap(), image.words)?;
+            self.pile.keep_image(words);
         }
+        Ok(self.printout.image(answer)?)
+    }
+
+    fn read(&mut self, address: u32) -> Result<(), Failure> {
+        let answer = self.pile.read(address).ok_or(Misplaced::NoCore)?;
+        Ok(self.printout.read(address, answer)?)
+    }
+
+    fn list(&mut self, address: u32, count: u32) -> Result<(), Failure> {
+        let pile = &mut self.pile;
+        self.printout.list(address, count, |at| pile.read(at))
     }
 }
 
-fn copy(heap: Global, bytes: &[u8]) -> Result<Vec<u8>, Misplaced> {
-    match Vec::from_slice(heap, bytes) {
-        Ok(copied) => Ok(copied),
-        Err(_) => Err(Misplaced::Memory),
+impl Obey for Desk<'_> {
+    fn printout(&self) -> &Printout<'_> {
+        &self.printout
+    }
+
+    fn obey(&mut self, command: Command) -> Result<Option<Pile>, Failure> {
+        let heap = self.printout.heap();
+        match command {
+            Command::Record(style) => self.printout.style = style,
+            Command::Plain(count) => self.add(Memory::zeros::<u32>(heap, count)?)?,
+            Command::Packed(count) => self.add(Memory::zeros::<u8>(heap, count)?)?,
+            Command::Words { offset, words } => self.pile.put(offset as usize, words.as_slice())?,
+            Command::Bytes { offset, bytes } => self.pile.put(offset as usize, bytes.as_slice())?,
+            Command::Pair => self.pile.pair()?,
+            Command::Protect => self.protect()?,
+            Command::Range { low, high } => self.add_range(low, high)?,
+            Command::Image(bytes) => self.take_image(&bytes)?,
+            Command::Read(address) => self.read(address)?,
+            Command::List { address, count } => self.list(address, count)?,
+            Command::Machine(kind) => return Ok(Some(self.take_pile(kind)?)),
+            _ => return Err(Failure::from(Misplaced::Unmade)),
+        }
+        Ok(None)
     }
 }

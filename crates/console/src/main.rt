@@ -1,50 +1,54 @@
 // Reads decks, from the files named as arguments or from standard input, and prints a record of each.
 #![tactic(auto)]
 
-mod building;
+mod calls;
 mod desk;
-mod lines;
-mod machine;
+mod failure;
 mod printout;
+mod run;
 
 use anyhow::anyhow;
-use lines::Lines;
+use failure::Failure;
+use run::run;
 use std::env;
 use std::fs::File;
-use std::io::{BufRead, BufReader};
+use std::io::BufReader;
 
 fn main(rt: HostRuntime) -> anyhow::Result<()> {
     run_all(&rt)
 }
 
 fn run_all(rt: &HostRuntime) -> anyhow::Result<()> {
-    let mut files = 0u64;
-    let mut unread = 0u64;
+    let mut named = false;
+    let mut unread = false;
     for name in env::args(rt)?.skip(1) {
-        files = files.saturating_add(1);
+        named = true;
         println!(rt; "deck {name}")?;
-        if !run_file(rt, name.as_str())? {
+        if !ran(run_file(rt, name.as_str()))? {
             println!(rt; "cannot be read")?;
-            unread = unread.saturating_add(1);
+            unread = true;
         }
     }
-    if files == 0 && !run_deck(rt, BufReader::new(rt.alloc(), rt.stdin())?)? {
+    if !named && !ran(run(rt, BufReader::new(rt.alloc(), rt.stdin())?))? {
         return Err(anyhow!("standard input cannot be read"));
     }
-    if unread > 0 {
+    if unread {
         return Err(anyhow!("a deck cannot be read"));
     }
     Ok(())
 }
 
-// False where the file cannot be read to its end.
-fn run_file(rt: &HostRuntime, name: &str) -> anyhow::Result<bool> {
-    match File::open(rt, name) {
-        Ok(file) => run_deck(rt, BufReader::new(rt.alloc(), file)?),
-        Err(_) => Ok(false),
-    }
+fn run_file(rt: &HostRuntime, name: &str) -> Result<(), Failure> {
+    let file = File::open(rt, name).map_err(|_| Failure::Unread)?;
+    run(rt, BufReader::new(rt.alloc(), file)?)
 }
 
-fn run_deck<R: BufRead + Drop>(rt: &HostRuntime, reader: R) -> anyhow::Result<bool> {
-    building::run(rt, Lines::new(rt.alloc(), reader))
+// False where the deck could not be read to its end, after which the next deck is run; another failure ends the program.
+fn ran(outcome: Result<(), Failure>) -> anyhow::Result<bool> {
+    match outcome {
+        Ok(()) => Ok(true),
+        Err(Failure::Unread) => Ok(false),
+        Err(Failure::Unprinted(error)) => Err(anyhow::Error::from(error)),
+        Err(Failure::Misplaced(misplaced)) => Err(anyhow!("{misplaced}")),
+    }
 }

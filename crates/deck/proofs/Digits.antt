@@ -1,50 +1,55 @@
 -- The steps of reading digits.
-use Rattle.std.proofs.Common.{◌≡◌, ℕ, ◌+◌, ◌-◌, ◌*◌, ◌^◌, ◌<◌, ◌≤◌, true, false, cond, ◌&&◌, ltb, List, [], ◌∷◌, length, get_or, take, drop, Ok, Err, sym, ap, ◌∙◌, le-mul_of_pos_right, arith, le-ltb, lt-ltb}
-use Rattle.std.proofs.lemmas.List.{at_drop_more, at_drop_all, take_rest}
-use Rattle.deck.specs.declared.problem.Problem.TheVariants.{Large}
-use Rattle.deck.specs.Numbers.{digit, all_digits, value_after, fitting, numeral, number}
+use Rattle.std.proofs.Common.{◌≡◌, ℕ, ◌+◌, ◌*◌, ◌^◌, ◌<◌, ◌≤◌, true, false, cond, ltb, List, [], ◌∷◌, length, get_or, drop, Ok, Err, Some, None, MatchOption, Option, Result, sym, refl, ap, ◌∙◌, le-mul_of_pos_right, arith, le-ltb, lt-ltb}
+use Rattle.std.proofs.lemmas.List.{at_drop_more}
+use Rattle.std.proofs.lemmas.Bool.Decides.{nat_tests}
+use Rattle.std.specs.Char.{digit_value}
+use Rattle.std.specs.Option.{SomeIff}
+use Rattle.deck.specs.declared.problem.Problem.{Problem}
+use Rattle.deck.specs.declared.problem.Problem.TheVariants.{Large, Number}
+use Rattle.deck.specs.Numbers.{digit, all_digits, value_after, fitting}
 
-pub digits_on : (base : ℕ) (bs : List ℕ) (i : ℕ) → i < length bs → ltb (digit (get_or bs i 0)) base ≡ true → all_digits base (drop (i + 1) bs) ≡ all_digits base (drop i bs)
-digits_on base bs i h t = sym (at_drop_more (all_digits base) bs i 0 h ∙ ap (λ x. x && all_digits base (drop (i + 1) bs)) t)
+-- the library's value of a digit is ours, up to base 16
+digit_is : (base b : ℕ) → base ≤ 16 → digit_value b < base → digit b ≡ digit_value b
+digit_is base b h d = grind (arith, nat_tests)
 
-pub digits_stop : (base : ℕ) (bs : List ℕ) (i : ℕ) → i < length bs → ltb (digit (get_or bs i 0)) base ≡ false → all_digits base (drop i bs) ≡ false
-digits_stop base bs i h t = at_drop_more (all_digits base) bs i 0 h ∙ ap (λ x. x && all_digits base (drop (i + 1) bs)) t
+digit_none : (base b : ℕ) → base ≤ 16 → base ≤ digit_value b → base ≤ digit b
+digit_none base b h d = grind (arith, nat_tests)
 
-pub digits_end : (base : ℕ) (bs : List ℕ) (i : ℕ) → length bs ≤ i → all_digits base (drop i bs) ≡ true
-digits_end base bs i h = at_drop_all (all_digits base) bs i h
-
-pub value_on : (base n factor d : ℕ) (bs : List ℕ) (i whole : ℕ) → i < length bs → factor ≡ base → d ≡ digit (get_or bs i 0) → value_after base n (drop i bs) ≡ whole → value_after base (n * factor + d) (drop (i + 1) bs) ≡ whole
-value_on base n factor d bs i whole h f e w =
-    ap (λ x. value_after base (n * x + d) (drop (i + 1) bs)) f ∙ ap (λ x. value_after base (n * base + x) (drop (i + 1) bs)) e ∙ sym (at_drop_more (value_after base n) bs i 0 h) ∙ w
-
-pub value_end : (base n : ℕ) (bs : List ℕ) (i whole : ℕ) → length bs ≤ i → value_after base n (drop i bs) ≡ whole → n ≡ whole
-value_end base n bs i whole h w = sym (at_drop_all (value_after base n) bs i h) ∙ w
+-- what the digits bs say after a value that was read, or that was too large
+abbrev pub after : ℕ → Option ℕ → List ℕ → Result ℕ Problem
+after base (Some n) bs = cond (all_digits base bs) (fitting (value_after base n bs)) (Err Number)
+after base None bs = cond (all_digits base bs) (Err Large) (Err Number)
 
 -- digits that follow make a number no less
 value_ge : (base n : ℕ) (bs : List ℕ) → 0 < base → n ≤ value_after base n bs
 value_ge base n [] h = omega arith
 value_ge base n (b ∷ bs) h = let more = value_ge base (n * base + digit b) bs h in let up = le-mul_of_pos_right n h in omega (arith, more, up)
 
-fits_at : (n : ℕ) → n < 2 ^ 32 → fitting n ≡ Ok n
-fits_at n h = ap (λ t. cond t (Ok n) (Err Large)) (lt-ltb n (2 ^ 32) h)
+overflows : (base n : ℕ) (bs : List ℕ) → 0 < base → 2 ^ 32 ≤ n → fitting (value_after base n bs) ≡ Err Large
+overflows base n bs p h =
+    ap (λ t. cond t (Ok (value_after base n bs)) (Err Large)) (le-ltb (value_after base n bs) (2 ^ 32) (omega (arith, value_ge base n bs p)))
 
-pub fits : (m n : ℕ) → m ≡ n → m < 2 ^ 32 → Ok m ≡ fitting n
-fits m n e h = ap (λ x. Ok x) e ∙ sym (fits_at n (omega arith))
+-- one digit more, where Q says of the value before that r is the value with it, if that fits
+module _ (base b d : ℕ) (r : Option ℕ) (bs : List ℕ) (Q : ℕ → Type 0) (low : 2 ≤ base) (below : ltb (digit b) base ≡ true) (is : d ≡ digit b) (gives : (n : ℕ) → Q n → SomeIff r (n * base + d < 2 ^ 32) (n * base + d)) where
+  joined : (n : ℕ) (t : Option ℕ) → r ≡ t → SomeIff t (n * base + d < 2 ^ 32) (n * base + d) → after base t bs ≡ after base (Some n) (b ∷ bs)
+  joined n (Some x) e m = rw (m.1, is, below) refl
+  joined n None e m =
+      rw (below, overflows base (n * base + digit b) bs (omega arith) (omega (arith, m, is))) refl
 
-overflows : (n : ℕ) → 2 ^ 32 ≤ n → Err Large ≡ fitting n
-overflows n h = sym (ap (λ t. cond t (Ok n) (Err Large)) (le-ltb n (2 ^ 32) h))
+  next : (v : Option ℕ) → MatchOption v (r ≡ None) Q → after base r bs ≡ after base v (b ∷ bs)
+  next None m = rw (m, below) refl
+  next (Some n) q = joined n r refl (gives n q)
 
-pub value_over : (base n : ℕ) (rest : List ℕ) (whole : ℕ) → 0 < base → 2 ^ 32 ≤ n → value_after base n rest ≡ whole → Err Large ≡ fitting whole
-value_over base n rest whole p h w = overflows whole (omega (arith, w, value_ge base n rest p))
+pub digit_on : (base d : ℕ) (v r : Option ℕ) (bs : List ℕ) (i : ℕ) (whole : Result ℕ Problem) (Q : ℕ → Type 0) → 2 ≤ base → base ≤ 16 → i < length bs → digit_value (get_or bs i 0) < base → d ≡ digit_value (get_or bs i 0) → ((n : ℕ) → Q n → SomeIff r (n * base + d < 2 ^ 32) (n * base + d)) → MatchOption v (r ≡ None) Q → after base v (drop i bs) ≡ whole → after base r (drop (i + 1) bs) ≡ whole
+digit_on base d v r bs i whole Q low high h below e gives m inv =
+    let b = get_or bs i 0 in
+    let is = digit_is base b high below in
+    next base b d r (drop (i + 1) bs) Q low (lt-ltb (digit b) base (omega arith)) (e ∙ sym is) gives v m ∙ sym (at_drop_more (after base v) bs i 0 h) ∙ inv
 
--- a word that begins with the two bytes of a prefix
-prefixed : (p q : ℕ) (w : List ℕ) → 2 ≤ length w → get_or w 0 0 ≡ p → get_or w 1 0 ≡ q → w ≡ p ∷ q ∷ drop 2 w
-prefixed p q [] h a b = absurd (omega arith)
-prefixed p q (x ∷ []) h a b = absurd (omega arith)
-prefixed p q (x ∷ y ∷ w) h a b = cc
+stopped : (base : ℕ) (v : Option ℕ) (b : ℕ) (bs : List ℕ) → ltb (digit b) base ≡ false → after base v (b ∷ bs) ≡ Err Number
+stopped base None b bs f = rw f refl
+stopped base (Some n) b bs f = rw f refl
 
-pub octal : (w : List ℕ) → 2 ≤ length w → get_or w 0 0 ≡ 48 → get_or w 1 0 ≡ 111 → numeral 8 (take (length w - 2) (drop 2 w)) ≡ number w
-octal w h a b = ap (numeral 8) (take_rest w 2) ∙ sym (ap number (prefixed 48 111 w h a b))
-
-pub hexadecimal : (w : List ℕ) → 2 ≤ length w → get_or w 0 0 ≡ 48 → get_or w 1 0 ≡ 120 → numeral 16 (take (length w - 2) (drop 2 w)) ≡ number w
-hexadecimal w h a b = ap (numeral 16) (take_rest w 2) ∙ sym (ap number (prefixed 48 120 w h a b))
+pub digit_stop : (base : ℕ) (v : Option ℕ) (bs : List ℕ) (i : ℕ) → base ≤ 16 → i < length bs → base ≤ digit_value (get_or bs i 0) → after base v (drop i bs) ≡ Err Number
+digit_stop base v bs i high h none =
+    at_drop_more (after base v) bs i 0 h ∙ stopped base v (get_or bs i 0) (drop (i + 1) bs) (le-ltb (digit (get_or bs i 0)) base (digit_none base (get_or bs i 0) high none))

@@ -51,5 +51,5 @@ abbrev pub spelled : List Keyword → List ℕ → Option Keyword
 spelled [] w = None
 spelled (k ∷ ks) w = cond (bytes_eq (keyword_name k) w) (Some k) (spelled ks w)
 
-abbrev pub keyword : List ℕ → Option Keyword
+unfoldable pub keyword : List ℕ → Option Keyword
 keyword w = spelled all_keywords w

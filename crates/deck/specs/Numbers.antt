@@ -1,7 +1,14 @@
 -- The number that a word writes.
 use Rattle.std.specs.Prelude.{ℕ, ◌+◌, ◌-◌, ◌*◌, ◌^◌, Bool, true, false, cond, ◌&&◌, List, [], ◌∷◌, drop, Ok, Err, codes, Result, ◌==◌, nat_le, nat_lt}
+use Rattle.deck.specs.declared.number.Base.{Base}
+use Rattle.deck.specs.declared.number.Base.TheVariants.{Octal, Decimal, Hexadecimal}
 use Rattle.deck.specs.declared.problem.Problem.{Problem}
 use Rattle.deck.specs.declared.problem.Problem.TheVariants.{Number, Large}
+
+abbrev pub radix : Base → ℕ
+radix Octal = 8
+radix Decimal = 10
+radix Hexadecimal = 16
 
 abbrev pub between : ℕ → ℕ → ℕ → Bool
 between low high b = nat_le low b && nat_le b high

@@ -1,8 +1,27 @@
+ghost use Rattle.std.specs.Prelude.{◌≡◌};
+ghost use Rattle.deck.specs.Lines.{style};
+
+use crate::problem::Problem;
+
 // How the record of a deck is printed.
 #[derive(Clone, Copy, PartialEq, Eq, Debug)]
 pub enum Style {
     Console,
     Plain,
+}
+
+impl TryFrom<&[u8]> for Style {
+    type Error = Problem;
+
+    ghost try_from_gives = { λ word r. r ≡ style word.now };
+
+    fn try_from(word: &[u8]) -> Result<Style, Problem> {
+        match word {
+            b"console" => Ok(Style::Console),
+            b"plain" => Ok(Style::Plain),
+            _ => Err(Problem::Style),
+        }
+    }
 }
 
 // One line of a deck.

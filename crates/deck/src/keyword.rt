@@ -1,5 +1,9 @@
 ghost use Rattle.std.specs.Prelude.{◌≡◌};
-ghost use Rattle.deck.specs.Keywords.{keyword_name, spelled, keyword};
+ghost use Rattle.std.specs.Option.{ok_or};
+ghost use Rattle.deck.specs.Keywords.{keyword_name, keyword};
+ghost use Rattle.deck.specs.declared.problem.Problem.TheVariants.{Unknown};
+
+use crate::problem::Problem;
 
 // A command whose arguments are numbers.
 #[derive(Clone, Copy)]
@@ -24,6 +28,7 @@ pub(crate) enum Keyword {
     Where,
 }
 
+// A table for `find`: a match on the bytes of eighteen words leaves goals that the check does not prove.
 const ALL: [Keyword; 18] = [
     Keyword::Plain,
     Keyword::Packed,
@@ -72,20 +77,15 @@ impl Keyword {
     }
 }
 
-// The first keyword of some that is spelled so.
-fn find(keywords: &[Keyword], word: &[u8]) -> Option<Keyword>
-    ensures { result ≡ spelled keywords.now word.now }
-{
-    for k in keywords {
-        if k.name().as_bytes() == word {
-            return Some(*k);
-        }
-    }
-    None
-}
+impl TryFrom<&[u8]> for Keyword {
+    type Error = Problem;
 
-pub(crate) fn keyword_of(word: &[u8]) -> Option<Keyword>
-    ensures { result ≡ keyword word.now }
-{
-    find(&ALL, word)
+    ghost try_from_gives = { λ word r. r ≡ ok_or (keyword word.now) Unknown };
+
+    fn try_from(word: &[u8]) -> Result<Keyword, Problem> {
+        ALL.iter()
+            .find(|k| k.name().as_bytes() == word)
+            .copied()
+            .ok_or(Problem::Unknown)
+    }
 }

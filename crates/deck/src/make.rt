@@ -3,13 +3,10 @@ ghost use Rattle.deck.specs.Commands.{meant, command, bytes_from};
 ghost use Rattle.deck.specs.Readings.{Means};
 
 use crate::command::Command;
-use crate::count::{miscount, none, one, two};
+use crate::count::exactly;
 use crate::keyword::Keyword;
 use crate::problem::Problem;
 use std::alloc::Global;
-
-// The largest byte.
-const LARGEST: u32 = 255;
 
 // Numbers as bytes.
 fn bytes_of(heap: Global, numbers: &[u32]) -> Result<Vec<u8>, Problem>
@@ -17,10 +14,8 @@ fn bytes_of(heap: Global, numbers: &[u32]) -> Result<Vec<u8>, Problem>
 {
     let mut bytes = Vec::new(heap);
     for n in numbers {
-        if *n > LARGEST {
-            return Err(Problem::Byte);
-        }
-        bytes.push(*n as u8)?;
+        let byte = u8::try_from(*n).map_err(|_| Problem::Byte)?;
+        bytes.push(byte)?;
     }
     Ok(bytes)
 }
@@ -34,9 +29,7 @@ fn image(heap: Global, numbers: &[u32]) -> Result<Command, Problem>
 fn bytes(heap: Global, numbers: &[u32]) -> Result<Command, Problem>
     ensures { Means result meant (command Keyword.Bytes numbers.now) }
 {
-    let [offset, rest @ ..] = numbers else {
-        return Err(Problem::Few);
-    };
+    let (offset, rest) = numbers.split_first().ok_or(Problem::Few)?;
     let bytes = bytes_of(heap, rest)?;
     Ok(Command::Bytes {
         offset: *offset,
@@ -47,9 +40,7 @@ fn bytes(heap: Global, numbers: &[u32]) -> Result<Command, Problem>
 fn words(heap: Global, numbers: &[u32]) -> Result<Command, Problem>
     ensures { Means result meant (command Keyword.Words numbers.now) }
 {
-    let [offset, rest @ ..] = numbers else {
-        return Err(Problem::Few);
-    };
+    let (offset, rest) = numbers.split_first().ok_or(Problem::Few)?;
     let words = Vec::from_slice(heap, rest)?;
     Ok(Command::Words {
         offset: *offset,
@@ -60,55 +51,44 @@ fn words(heap: Global, numbers: &[u32]) -> Result<Command, Problem>
 fn page(numbers: &[u32]) -> Result<Command, Problem>
     ensures { Means result meant (command Keyword.Page numbers.now) }
 {
-    match numbers {
-        [group, entry, page, start, length, flag] => {
-            if *flag > 1 {
-                return Err(Problem::Flag);
-            }
-            let write = *flag == 1;
-            Ok(Command::Page {
-                group: *group,
-                entry: *entry,
-                page: *page,
-                start: *start,
-                length: *length,
-                write,
-            })
-        }
-        _ => Err(miscount(numbers, 6)),
+    let [group, entry, page, start, length, flag] = exactly::<6>(numbers)?;
+    if flag > 1 {
+        return Err(Problem::Flag);
     }
+    Ok(Command::Page {
+        group,
+        entry,
+        page,
+        start,
+        length,
+        write: flag == 1,
+    })
 }
 
 fn load(numbers: &[u32]) -> Result<Command, Problem>
     ensures { Means result meant (command Keyword.Load numbers.now) }
 {
-    match numbers {
-        [group, a, q, b1, b2, b3, p] => {
-            Ok(Command::Load {
-                group: *group,
-                a: *a,
-                q: *q,
-                b1: *b1,
-                b2: *b2,
-                b3: *b3,
-                p: *p,
-            })
-        }
-        _ => Err(miscount(numbers, 7)),
-    }
+    let [group, a, q, b1, b2, b3, p] = exactly::<7>(numbers)?;
+    Ok(Command::Load {
+        group,
+        a,
+        q,
+        b1,
+        b2,
+        b3,
+        p,
+    })
 }
 
 fn turn(numbers: &[u32]) -> Result<Command, Problem>
     ensures { Means result meant (command Keyword.Turn numbers.now) }
 {
-    match numbers {
-        [group, length, keys] => Ok(Command::Turn {
-            group: *group,
-            length: *length,
-            keys: *keys,
-        }),
-        _ => Err(miscount(numbers, 3)),
-    }
+    let [group, length, keys] = exactly::<3>(numbers)?;
+    Ok(Command::Turn {
+        group,
+        length,
+        keys,
+    })
 }
 
 // The command of a keyword with these numbers.
@@ -120,43 +100,58 @@ pub(crate) fn command_of(
     ensures { Means result meant (command keyword numbers.now) }
 {
     match keyword {
-        Keyword::Plain => Ok(Command::Plain(one(numbers)?)),
-        Keyword::Packed => Ok(Command::Packed(one(numbers)?)),
+        Keyword::Plain => {
+            let [words] = exactly::<1>(numbers)?;
+            Ok(Command::Plain(words))
+        }
+        Keyword::Packed => {
+            let [bytes] = exactly::<1>(numbers)?;
+            Ok(Command::Packed(bytes))
+        }
         Keyword::Words => words(heap, numbers),
         Keyword::Bytes => bytes(heap, numbers),
         Keyword::Pair => {
-            none(numbers)?;
+            let [] = exactly::<0>(numbers)?;
             Ok(Command::Pair)
         }
         Keyword::Protect => {
-            none(numbers)?;
+            let [] = exactly::<0>(numbers)?;
             Ok(Command::Protect)
         }
-        Keyword::Machine => Ok(Command::Machine(one(numbers)?)),
+        Keyword::Machine => {
+            let [kind] = exactly::<1>(numbers)?;
+            Ok(Command::Machine(kind))
+        }
         Keyword::Range => {
-            let (low, high) = two(numbers)?;
+            let [low, high] = exactly::<2>(numbers)?;
             Ok(Command::Range { low, high })
         }
         Keyword::Image => image(heap, numbers),
         Keyword::Page => page(numbers),
         Keyword::Absent => {
-            let (group, entry) = two(numbers)?;
+            let [group, entry] = exactly::<2>(numbers)?;
             Ok(Command::Absent { group, entry })
         }
         Keyword::Load => load(numbers),
         Keyword::Turn => turn(numbers),
-        Keyword::Report => Ok(Command::Report(one(numbers)?)),
-        Keyword::Read => Ok(Command::Read(one(numbers)?)),
+        Keyword::Report => {
+            let [group] = exactly::<1>(numbers)?;
+            Ok(Command::Report(group))
+        }
+        Keyword::Read => {
+            let [address] = exactly::<1>(numbers)?;
+            Ok(Command::Read(address))
+        }
         Keyword::Write => {
-            let (address, word) = two(numbers)?;
+            let [address, word] = exactly::<2>(numbers)?;
             Ok(Command::Write { address, word })
         }
         Keyword::List => {
-            let (address, count) = two(numbers)?;
+            let [address, count] = exactly::<2>(numbers)?;
             Ok(Command::List { address, count })
         }
         Keyword::Where => {
-            let (group, address) = two(numbers)?;
+            let [group, address] = exactly::<2>(numbers)?;
             Ok(Command::Where { group, address })
         }
     }

@@ -1,57 +1,44 @@
-ghost use Rattle.std.specs.Prelude.{◌≡◌, ◌<◌, ◌≤◌};
-ghost use Rattle.deck.specs.Numbers.{digit, all_digits, value_after, fitting, numeral, number};
+ghost use Rattle.std.specs.Prelude.{◌≡◌, ◌≤◌};
+ghost use Rattle.deck.specs.Numbers.{radix, numeral, number};
 
 use crate::problem::Problem;
 
-// What a byte stands for as a digit, or 16.
-fn digit_of(b: u8) -> u32
-    ensures value { result ≡ digit b }
-    ensures bound { result ≤ 16 }
-{
-    match b {
-        b'0'..=b'9' => u32::from(b - b'0'),
-        b'a'..=b'f' => u32::from(b - b'a') + 10,
-        b'A'..=b'F' => u32::from(b - b'A') + 10,
-        _ => 16,
-    }
+// What a numeral is written in.
+#[derive(Clone, Copy)]
+enum Base {
+    Octal,
+    Decimal,
+    Hexadecimal,
 }
 
-fn all_digits_of(base: u32, digits: &[u8]) -> bool
-    ensures { result ≡ all_digits base digits.now }
-{
-    for b in digits {
-        if digit_of(*b) >= base {
-            return false;
+impl Base {
+    fn radix(self) -> u32
+        ensures value { result ≡ radix self }
+        ensures above { 2 ≤ result }
+        ensures within { result ≤ 16 }
+    {
+        match self {
+            Base::Octal => 8,
+            Base::Decimal => 10,
+            Base::Hexadecimal => 16,
         }
     }
-    true
 }
 
-// The number that digits write, or None where it is above 4294967295.
-fn value_of(base: u32, digits: &[u8]) -> Result<u32, Problem>
-    requires { (base ≤ 16) × (0 < base) }
-    ensures { result ≡ fitting (value_after base 0 digits.now) }
+// The number that the digits of a base write. `from_str_radix` reads text, and takes a plus sign.
+fn read_digits(base: Base, digits: &[u8]) -> Result<u32, Problem>
+    ensures { result ≡ numeral (radix base) digits.now }
 {
-    let mut value = 0;
-    for b in digits {
-        let next = value * u64::from(base) + u64::from(digit_of(*b));
-        if next > u64::from(u32::MAX) {
-            return Err(Problem::Large);
-        }
-        value = next;
-    }
-    Ok(value as u32)
-}
-
-// The number that the digits of a base write.
-fn read_digits(base: u32, digits: &[u8]) -> Result<u32, Problem>
-    requires { (base ≤ 16) × (0 < base) }
-    ensures { result ≡ numeral base digits.now }
-{
-    if digits.is_empty() || !all_digits_of(base, digits) {
+    let radix = base.radix();
+    if digits.is_empty() {
         return Err(Problem::Number);
     }
-    value_of(base, digits)
+    let mut value = Some(0u32);
+    for b in digits {
+        let digit = char::from(*b).to_digit(radix).ok_or(Problem::Number)?;
+        value = value.and_then(|n: u32| n.checked_mul(radix)?.checked_add(digit));
+    }
+    value.ok_or(Problem::Large)
 }
 
 // Reads a word as a number.
@@ -59,8 +46,8 @@ pub fn read_number(word: &[u8]) -> Result<u32, Problem>
     ensures { result ≡ number word.now }
 {
     match word {
-        [b'0', b'o', digits @ ..] => read_digits(8, digits),
-        [b'0', b'x', digits @ ..] => read_digits(16, digits),
-        _ => read_digits(10, word),
+        [b'0', b'o', digits @ ..] => read_digits(Base::Octal, digits),
+        [b'0', b'x', digits @ ..] => read_digits(Base::Hexadecimal, digits),
+        _ => read_digits(Base::Decimal, word),
     }
 }

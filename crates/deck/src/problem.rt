@@ -28,11 +28,11 @@ pub enum Problem {
     Memory,
 }
 
-impl Problem {
-    fn name(self) -> &'static str
-        ensures { result.now ≡ problem_name self }
-    {
-        match self {
+impl fmt::Display for Problem {
+    ghost output = { λ x. Some (problem_name x) };
+
+    fn fmt<W: fmt::Write>(&self, f: &mut fmt::Formatter<W>) -> fmt::Result {
+        f.write_str(match self {
             Problem::Unknown => "unknown word",
             Problem::Number => "not a number",
             Problem::Large => "number above 4294967295",
@@ -42,15 +42,7 @@ impl Problem {
             Problem::Flag => "flag above 1",
             Problem::Style => "neither console nor plain",
             Problem::Memory => "no memory",
-        }
-    }
-}
-
-impl fmt::Display for Problem {
-    ghost output = { λ x. Some (problem_name x) };
-
-    fn fmt<W: fmt::Write>(&self, f: &mut fmt::Formatter<W>) -> fmt::Result {
-        f.write_str(self.name())
+        })
     }
 }
 

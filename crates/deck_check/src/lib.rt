@@ -23,10 +23,7 @@ mod tests {
     }
 
     fn problem(heap: Global, line: &[u8]) -> Option<Problem> {
-        match read_line(heap, line) {
-            Ok(_) => None,
-            Err(problem) => Some(problem),
-        }
+        read_line(heap, line).err()
     }
 
     #[test]

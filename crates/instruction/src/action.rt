@@ -1,7 +1,7 @@
 use registers::{Index, Key};
 
 // What an instruction without a memory operand does with its field y or m.
-#[derive(Clone, Copy)]
+#[derive(Clone, Copy, PartialEq, Eq, Debug)]
 pub enum Action {
     SelectJump(Key),
     IndexJump(Count, Index),
@@ -18,13 +18,13 @@ pub enum Action {
 }
 
 // By one, up or down.
-#[derive(Clone, Copy)]
+#[derive(Clone, Copy, PartialEq, Eq, Debug)]
 pub enum Count {
     Up,
     Down,
 }
 
-#[derive(Clone, Copy)]
+#[derive(Clone, Copy, PartialEq, Eq, Debug)]
 pub enum Relation {
     Equal,
     Unequal,
@@ -33,20 +33,20 @@ pub enum Relation {
 }
 
 // The register that an instruction works on, and how y is brought to its width.
-#[derive(Clone, Copy)]
+#[derive(Clone, Copy, PartialEq, Eq, Debug)]
 pub enum Target {
     Index(Index),
     A(Extension),
     Q(Extension),
 }
 
-#[derive(Clone, Copy)]
+#[derive(Clone, Copy, PartialEq, Eq, Debug)]
 pub enum Extension {
     Sign,
     Zero,
 }
 
-#[derive(Clone, Copy)]
+#[derive(Clone, Copy, PartialEq, Eq, Debug)]
 pub enum Shifted {
     A,
     Q,

@@ -4,7 +4,7 @@ use crate::operation::Operation;
 use crate::place::Place;
 use ones::Address;
 
-#[derive(Clone, Copy)]
+#[derive(Clone, Copy, PartialEq, Eq, Debug)]
 pub enum Instruction {
     // one that only an executive may carry out
     Executive,
@@ -17,7 +17,7 @@ pub enum Instruction {
 }
 
 // What a search looks for.
-#[derive(Clone, Copy)]
+#[derive(Clone, Copy, PartialEq, Eq, Debug)]
 pub enum Search {
     Equal,
     Threshold,

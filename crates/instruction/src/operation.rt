@@ -1,7 +1,7 @@
 use registers::Index;
 
 // What an instruction does at its effective address M.
-#[derive(Clone, Copy)]
+#[derive(Clone, Copy, PartialEq, Eq, Debug)]
 pub enum Operation {
     Jump,
     // reads the word at M
@@ -16,7 +16,7 @@ pub enum Operation {
     StoreTwo,
 }
 
-#[derive(Clone, Copy)]
+#[derive(Clone, Copy, PartialEq, Eq, Debug)]
 pub enum Take {
     LoadA,
     LoadQ,
@@ -31,7 +31,7 @@ pub enum Take {
     LoadIndex(Index),
 }
 
-#[derive(Clone, Copy)]
+#[derive(Clone, Copy, PartialEq, Eq, Debug)]
 pub enum TakeTwo {
     Load,
     LoadComplement,
@@ -39,14 +39,14 @@ pub enum TakeTwo {
     Subtract,
 }
 
-#[derive(Clone, Copy)]
+#[derive(Clone, Copy, PartialEq, Eq, Debug)]
 pub enum Change {
     Add,
     StoreAddress,
     StoreIndex(Index),
 }
 
-#[derive(Clone, Copy)]
+#[derive(Clone, Copy, PartialEq, Eq, Debug)]
 pub enum Source {
     A,
     Q,

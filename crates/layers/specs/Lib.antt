@@ -1,5 +1,4 @@
 pub mod Pair
 pub mod Ranges
-pub mod Listed
 pub mod Protection
 pub mod Writing

@@ -1,17 +1,22 @@
-ghost use Rattle.std.specs.Prelude.{◌≡◌};
-ghost use Rattle.answers.specs.declared.layer.Layer.TheVariants.{Pair as PairLayer};
-ghost use Rattle.layers.specs.Pair.{paired, paired_sound, written};
+ghost use Rattle.std.specs.Prelude.{◌≡◌, ◌+◌, ◌-◌, min};
+ghost use Rattle.layers.specs.declared.pair.Half.TheVariants.{First, Second};
+ghost use Rattle.layers.specs.Pair.{paired, paired_sound, split, written};
 ghost use Rattle.layers.specs.Writing.{pair_writes};
-ghost use Rattle.store.specs.Meaning.{beyond};
 
-use answers::{Cause, Fault, Layer};
-use store::{Faithful, Store, WORDS};
+use answers::{Fault, Layer};
+use store::{Faithful, Store, WORDS, within};
 
 // One store's addresses and cells before another's.
 #[derive(Drop)]
 pub struct Pair<F, S> {
     first: F,
     second: S,
+}
+
+// The store of a pair that has an address, and its own address there.
+enum Half {
+    First(u32),
+    Second(u32),
 }
 
 // The prover knows a constant only where no type parameter is, so the layer's number stands here.
@@ -25,6 +30,18 @@ impl<F: Store, S: Store> Pair<F, S> {
         ensures parts { (result.first ≡ first) × (result.second ≡ second) }
     {
         Pair { first, second }
+    }
+
+    // Which store has the address, and by which of its own addresses.
+    fn locate(&self, address: u32) -> Result<Half, Fault>
+        ensures { result ≡ split (F.Store.meaning self.now.first).size (min ((F.Store.meaning self.now.first).size + (S.Store.meaning self.now.second).size) 262144) address (Ok (First address)) (Ok (Second (address - (F.Store.meaning self.now.first).size))) }
+    {
+        let first = self.first.size();
+        if address < first {
+            return Ok(Half::First(address));
+        }
+        within(Pair::<(), ()>::NUMBER, self.size(), address)?;
+        Ok(Half::Second(address - first))
     }
 }
 
@@ -42,47 +59,24 @@ impl<F: Store, S: Store> Store for Pair<F, S> {
     }
 
     fn read(&self, address: u32) -> Result<u32, Fault> {
-        let first = self.first.size();
-        if address < first {
-            self.first.read(address)
-        } else if address < self.size() {
-            self.second.read(address - first)
-        } else {
-            Err(past(address))
+        match self.locate(address)? {
+            Half::First(at) => self.first.read(at),
+            Half::Second(at) => self.second.read(at),
         }
     }
 
     fn ask(&self, address: u32) -> Result<(), Fault> {
-        let first = self.first.size();
-        if address < first {
-            self.first.ask(address)
-        } else if address < self.size() {
-            self.second.ask(address - first)
-        } else {
-            Err(past(address))
+        match self.locate(address)? {
+            Half::First(at) => self.first.ask(at),
+            Half::Second(at) => self.second.ask(at),
         }
     }
 
     fn write(&mut self, address: u32, value: u32) -> Result<(), Fault> {
-        let first = self.first.size();
-        if address < first {
-            self.first.write(address, value)
-        } else if address < (*self).size() {
-            self.second.write(address - first, value)
-        } else {
-            Err(past(address))
+        match (*self).locate(address)? {
+            Half::First(at) => self.first.write(at, value),
+            Half::Second(at) => self.second.write(at, value),
         }
-    }
-}
-
-// The pair's own refusal.
-fn past(address: u32) -> Fault
-    ensures { result ≡ beyond PairLayer address }
-{
-    Fault {
-        cause: Cause::Beyond,
-        layer: Pair::<(), ()>::NUMBER,
-        address,
     }
 }
 

@@ -1,12 +1,11 @@
 ghost use Rattle.std.specs.Prelude.{◌≡◌, Ok};
-ghost use Rattle.layers.specs.Listed.{listed};
 ghost use Rattle.answers.specs.declared.layer.Layer.TheVariants.{Protection as ProtectionLayer};
 ghost use Rattle.layers.specs.Protection.{barred, guarded, protected, protected_sound};
 ghost use Rattle.layers.specs.Ranges.{covered};
 ghost use Rattle.layers.specs.Writing.{guarded_taken, protected_writes};
 
 use crate::range::Ranges;
-use answers::{Cause, Fault, Layer};
+use answers::{Fault, Layer};
 use store::{Faithful, Store};
 
 // The store below, but that the addresses in the ranges take no write.
@@ -23,21 +22,32 @@ impl Protection<()> {
 
 impl<C: Store> Protection<C> {
     pub fn new(below: C, ranges: Ranges) -> Protection<C>
-        ensures meaning { protected (listed result.ranges) (C.Store.meaning result.below) ≡ protected (listed ranges) (C.Store.meaning below) }
+        ensures meaning { protected result.ranges (C.Store.meaning result.below) ≡ protected ranges (C.Store.meaning below) }
         ensures parts { (result.below ≡ below) × (result.ranges ≡ ranges) }
     {
         Protection { below, ranges }
+    }
+
+    // The protection's own answer to a write.
+    fn unprotected(&self, address: u32) -> Result<(), Fault>
+        ensures { result ≡ guarded (covered self.now.ranges address) (barred ProtectionLayer address) (Ok tt) }
+    {
+        if self.ranges.cover(address) {
+            Err(Fault::protected(Protection::<()>::NUMBER, address))
+        } else {
+            Ok(())
+        }
     }
 }
 
 impl<C: Store> Store for Protection<C> {
     const LAYER: Layer = Protection::<()>::NUMBER;
 
-    ghost meaning = { λ s. protected (listed s.ranges) (C.Store.meaning s.below) };
+    ghost meaning = { λ s. protected s.ranges (C.Store.meaning s.below) };
 
     ghost wrote = { λ s a v. record { below = C.Store.wrote s.below a v; ranges = s.ranges } };
 
-    ghost sound = { λ s. protected_sound (listed s.ranges) (C.Store.meaning s.below) (C.Store.sound s.below) };
+    ghost sound = { λ s. protected_sound s.ranges (C.Store.meaning s.below) (C.Store.sound s.below) };
 
     fn size(&self) -> u32 {
         self.below.size()
@@ -49,7 +59,7 @@ impl<C: Store> Store for Protection<C> {
 
     fn ask(&self, address: u32) -> Result<(), Fault> {
         self.below.ask(address)?;
-        unprotected(&self.ranges, address)
+        self.unprotected(address)
     }
 
     fn write(&mut self, address: u32, value: u32) -> Result<(), Fault> {
@@ -58,21 +68,6 @@ impl<C: Store> Store for Protection<C> {
     }
 }
 
-// The protection's own answer to a write.
-fn unprotected(ranges: &Ranges, address: u32) -> Result<(), Fault>
-    ensures { result ≡ guarded (covered (listed ranges.now) address) (barred ProtectionLayer address) (Ok tt) }
-{
-    if ranges.cover(address) {
-        Err(Fault {
-            cause: Cause::Protected,
-            layer: Protection::<()>::NUMBER,
-            address,
-        })
-    } else {
-        Ok(())
-    }
-}
-
 impl<C: Faithful> Faithful for Protection<C> {
-    ghost writes = { λ s a v h. protected_writes (listed s.ranges) (C.Store.meaning s.below) (C.Store.meaning (C.Store.wrote s.below a v)) a v (C.Faithful.writes s.below a v (guarded_taken _ _ _ h)) };
+    ghost writes = { λ s a v h. protected_writes s.ranges (C.Store.meaning s.below) (C.Store.meaning (C.Store.wrote s.below a v)) a v (C.Faithful.writes s.below a v (guarded_taken _ _ _ h)) };
 }

@@ -1,57 +1,46 @@
-ghost use Rattle.std.specs.Prelude.{◌≡◌, []};
-ghost use Rattle.layers.specs.Listed.{how_many, listed};
+ghost use Rattle.std.specs.Prelude.{◌≡◌, [], length};
 ghost use Rattle.layers.specs.Ranges.{added, admits, covered, inside};
 
-use crate::range::{MOST, Range, Ranges};
+use crate::range::{Range, Ranges};
 use answers::Refusal;
+use arrayvec::ArrayVec;
 use store::WORDS;
 
 impl Ranges {
     pub fn new() -> Ranges
-        ensures { listed result ≡ [] }
+        ensures { result ≡ [] }
     {
         Ranges {
-            table: [Range { low: 0, high: 0 }; MOST],
-            count: 0,
+            table: ArrayVec::new(),
         }
     }
 
     // One range more, or a refusal that changes nothing.
     pub fn add(&mut self, low: u32, high: u32) -> Result<(), Refusal>
-        ensures answer { result ≡ admits (how_many self.old) low high }
-        ensures after { listed self.new ≡ added result (listed self.old) low high }
+        ensures answer { result ≡ admits (length self.old) low high }
+        ensures after { self.new ≡ added result self.old low high }
     {
         if low > high || high >= WORDS {
             return Err(Refusal::Range);
         }
-        if self.count >= MOST {
+        if self.table.is_full() {
             return Err(Refusal::Ranges);
         }
-        self.table[self.count] = Range { low, high };
-        self.count += 1;
+        self.table.push(Range { low, high });
         Ok(())
     }
 
     pub fn cover(&self, address: u32) -> bool
-        ensures { result ≡ covered (listed self.now) address }
+        ensures { result ≡ covered self.now address }
     {
-        any_covers(&self.table[0..self.count.min(MOST)], address)
+        self.table.iter().any(|range| range.covers(address))
     }
 }
 
-fn any_covers(ranges: &[Range], address: u32) -> bool
-    ensures { result ≡ covered ranges.now address }
-{
-    for range in ranges {
-        if covers(range, address) {
-            return true;
-        }
+impl Range {
+    fn covers(&self, address: u32) -> bool
+        ensures { result ≡ inside self.now address }
+    {
+        (self.low..=self.high).contains(&address)
     }
-    false
-}
-
-fn covers(range: &Range, address: u32) -> bool
-    ensures { result ≡ inside range.now address }
-{
-    range.low <= address && address <= range.high
 }

@@ -1,42 +1,33 @@
-use crate::faults::{beyond, protected, unmapped};
-use answers::Layer;
+use crate::faults::unmapped;
+use answers::{Fault, Layer};
 use layers::{Protection, Ranges};
 use ones::{Address, Word};
-use pages::{Group, Place, Relocation, Setting};
+use pages::{Group, Page, Place, Relocation, Setting};
 use std::test::Fail;
 use store::{Plain, Store};
 
 // The groups are numbered 0 to 7.
 fn group(number: u32) -> Group {
-    match Group::new(number % 8) {
-        Some(group) => group,
-        None => unreachable(),
+    match Group::try_from(number % 8) {
+        Ok(group) => group,
+        Err(_) => unreachable(),
     }
 }
 
 fn page(page: u32, start: u32, length: u32, write: bool) -> Setting {
-    Setting::Page {
+    Some(Page {
         page,
         start,
         length,
         write,
-    }
-}
-
-// Word k is k.
-fn counted(words: &mut [u32]) {
-    let mut n = 0u32;
-    for word in words.iter_mut() {
-        *word = n;
-        n = n.wrapping_add(1);
-    }
+    })
 }
 
 // Both ends of each quarter of a whole page and of three partial ones: group, address, core address.
 #[test]
 fn quarters_and_their_ends(rt: HostRuntime) -> Result<(), Fail> {
-    let mut words = vec![in rt.alloc(); 0u32; 8_192]?;
-    counted(words.as_mut_slice());
+    // word k is k
+    let mut words: Vec<u32> = (0..8_192).collect(rt.alloc())?;
     let mut store = Relocation::new(Plain::new(words.as_mut_slice()));
     store.set(0, 0, page(3, 1, 2, false))?;
     store.set(0, 1, page(2, 0, 4, true))?;
@@ -67,7 +58,7 @@ fn quarters_and_their_ends(rt: HostRuntime) -> Result<(), Fail> {
             }
         );
         assert_eq!(rt;
-            store.read_for(group(g), Address::low(address))?,
+            view::read(&store, group(g), Address::low(address))?,
             Word::low(core as u64)
         );
     }
@@ -96,11 +87,11 @@ fn where_no_page_is(rt: HostRuntime) -> Result<(), Fail> {
         let fault = unmapped(original);
         let at = Address::low(address);
         assert_eq!(rt; store.place_for(group(g), at), Err(fault));
-        assert_eq!(rt; store.read_for(group(g), at), Err(fault));
+        assert_eq!(rt; view::read(&store, group(g), at), Err(fault));
         assert_eq!(rt;
             [
-                store.ask_for(group(g), at),
-                store.write_for(group(g), at, Word::low(1)),
+                view::ask(&store, group(g), at),
+                view::write(&mut store, group(g), at, Word::low(1)),
             ],
             [Err(fault); 2]
         );
@@ -114,8 +105,8 @@ fn where_no_page_is(rt: HostRuntime) -> Result<(), Fail> {
         ],
         [
             Err(unmapped(262_143)),
-            Err(beyond(Layer::Relocation, 262_144)),
-            Err(beyond(Layer::Relocation, 4_294_967_295)),
+            Err(Fault::beyond(Layer::Relocation, 262_144)),
+            Err(Fault::beyond(Layer::Relocation, 4_294_967_295)),
         ]
     );
     Ok(())
@@ -128,10 +119,10 @@ fn pages_over_a_missing_core(rt: HostRuntime) -> Result<(), Fail> {
     let mut store = Relocation::new(Plain::new(words.as_mut_slice()));
     store.set(1, 0, page(1, 0, 1, false))?;
     store.set(1, 1, page(1, 0, 1, true))?;
-    let past = beyond(Layer::Plain, 2_148);
+    let past = Fault::beyond(Layer::Plain, 2_148);
     let (last, held) = (
-        protected(Layer::Relocation, 32_867),
-        protected(Layer::Relocation, 32_868),
+        Fault::protected(Layer::Relocation, 32_867),
+        Fault::protected(Layer::Relocation, 32_868),
     );
     assert_eq!(rt;
         [
@@ -173,19 +164,19 @@ fn two_descriptors_of_one_cell(rt: HostRuntime) -> Result<(), Fail> {
     store.set(3, 2, page(0, 0, 2, false))?;
     let (own, other) = (Address::low(7), Address::low(4_615));
     let word = Word::low(0o1234_5670);
-    let held = protected(Layer::Relocation, 102_919);
+    let held = Fault::protected(Layer::Relocation, 102_919);
     assert_eq!(rt;
         [
-            store.write_for(group(0), own, word),
-            store.ask_for(group(3), other),
-            store.write_for(group(3), other, Word::low(1)),
+            view::write(&mut store, group(0), own, word),
+            view::ask(&store, group(3), other),
+            view::write(&mut store, group(3), other, Word::low(1)),
         ],
         [Ok(()), Err(held), Err(held)]
     );
     assert_eq!(rt;
         [
-            store.read_for(group(3), other),
-            store.read_for(group(0), own),
+            view::read(&store, group(3), other),
+            view::read(&store, group(0), own),
         ],
         [Ok(word), Ok(word)]
     );
@@ -201,7 +192,7 @@ fn a_protected_word_under_a_page(rt: HostRuntime) -> Result<(), Fail> {
     ranges.add(600, 600)?;
     let mut store = Relocation::new(Protection::new(Plain::new(&mut words), ranges));
     store.set(0, 0, page(0, 1, 1, true))?;
-    let held = protected(Layer::Protection, 600);
+    let held = Fault::protected(Layer::Protection, 600);
     assert_eq!(rt;
         [
             store.ask(87),

@@ -1,5 +1,4 @@
-use crate::faults::{beyond, protected};
-use answers::{Layer, Refusal};
+use answers::{Fault, Layer, Refusal};
 use layers::{Pair, Protection, Ranges};
 use pages::Relocation;
 use std::test::Fail;
@@ -34,7 +33,10 @@ fn a_pair_and_its_seam(rt: HostRuntime) -> Result<(), Fail> {
     let second = Protection::new(Packed::new(&mut bytes), ranges);
     let mut pair = Pair::new(Plain::new(&mut words), second);
     assert_eq!(rt; pair.size(), 6);
-    let past = [beyond(Layer::Pair, 6), beyond(Layer::Pair, 4_294_967_295)];
+    let past = [
+        Fault::beyond(Layer::Pair, 6),
+        Fault::beyond(Layer::Pair, 4_294_967_295),
+    ];
     assert_eq!(rt;
         [
             pair.read(0),
@@ -45,7 +47,7 @@ fn a_pair_and_its_seam(rt: HostRuntime) -> Result<(), Fail> {
         ],
         [Ok(10), Ok(13), Ok(20), Ok(21), Err(past[0])]
     );
-    let held = Err(protected(Layer::Protection, 1));
+    let held = Err(Fault::protected(Layer::Protection, 1));
     assert_eq!(rt;
         [
             pair.ask(3),
@@ -82,7 +84,7 @@ fn a_pair_is_cut(rt: HostRuntime) -> Result<(), Fail> {
         Plain::new(second.as_mut_slice()),
     );
     assert_eq!(rt; pair.size(), 262_144);
-    let past = beyond(Layer::Pair, 262_144);
+    let past = Fault::beyond(Layer::Pair, 262_144);
     assert_eq!(rt;
         [
             pair.write(199_999, 5),
@@ -116,20 +118,20 @@ fn a_protection_and_its_edges(rt: HostRuntime) -> Result<(), Fail> {
     assert_eq!(rt; core.size(), 6);
     for (address, answer) in [
         (0, Ok(())),
-        (1, Err(protected(Layer::Protection, 1))),
-        (2, Err(protected(Layer::Protection, 2))),
-        (3, Err(protected(Layer::Protection, 3))),
+        (1, Err(Fault::protected(Layer::Protection, 1))),
+        (2, Err(Fault::protected(Layer::Protection, 2))),
+        (3, Err(Fault::protected(Layer::Protection, 3))),
         (4, Ok(())),
-        (5, Err(protected(Layer::Protection, 5))),
-        (6, Err(beyond(Layer::Plain, 6))),
-        (262_144, Err(beyond(Layer::Plain, 262_144))),
+        (5, Err(Fault::protected(Layer::Protection, 5))),
+        (6, Err(Fault::beyond(Layer::Plain, 6))),
+        (262_144, Err(Fault::beyond(Layer::Plain, 262_144))),
     ] {
         assert_eq!(rt;
             [core.ask(address), core.write(address, 9)],
             [answer, answer]
         );
     }
-    assert_eq!(rt; core.read(6), Err(beyond(Layer::Plain, 6)));
+    assert_eq!(rt; core.read(6), Err(Fault::beyond(Layer::Plain, 6)));
     assert_eq!(rt; words, [9, 2, 3, 4, 9, 6]);
     Ok(())
 }

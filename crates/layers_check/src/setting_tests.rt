@@ -1,16 +1,16 @@
 use crate::faults::unmapped;
 use answers::Refusal;
-use pages::{Group, Relocation, Setting};
+use pages::{Group, Page, Relocation, Setting};
 use std::test::Fail;
 use store::{Plain, Store};
 
 const fn page(page: u32, start: u32, length: u32) -> Setting {
-    Setting::Page {
+    Some(Page {
         page,
         start,
         length,
         write: true,
-    }
+    })
 }
 
 // The first check that fails names the refusal, and address 0 of group 0 stays where it was.
@@ -21,10 +21,10 @@ fn settings_and_their_refusals(rt: HostRuntime) -> Result<(), Fail> {
     store.set(0, 0, page(0, 0, 1))?;
     for (group, entry, setting, refusal) in [
         (8, 16, page(128, 4, 0), Refusal::Group),
-        (8, 0, Setting::Absent, Refusal::Group),
+        (8, 0, None, Refusal::Group),
         (4_294_967_295, 0, page(0, 0, 1), Refusal::Group),
         (0, 16, page(128, 4, 0), Refusal::Entry),
-        (0, 4_294_967_295, Setting::Absent, Refusal::Entry),
+        (0, 4_294_967_295, None, Refusal::Entry),
         (0, 0, page(128, 0, 1), Refusal::Descriptor),
         (0, 0, page(4_294_967_295, 0, 1), Refusal::Descriptor),
         (0, 0, page(1, 4, 1), Refusal::Descriptor),
@@ -49,7 +49,7 @@ fn an_absent_setting_removes_a_page(rt: HostRuntime) -> Result<(), Fail> {
     store.set(0, 0, page(0, 0, 4))?;
     store.set(7, 15, page(0, 0, 4))?;
     assert_eq!(rt; [store.read(0)?, store.read(260_096)?], [5, 5]);
-    store.set(0, 0, Setting::Absent)?;
+    store.set(0, 0, None)?;
     assert_eq!(rt; store.read(0), Err(unmapped(0)));
     assert_eq!(rt; store.read(260_096)?, 5);
     Ok(())
@@ -57,15 +57,13 @@ fn an_absent_setting_removes_a_page(rt: HostRuntime) -> Result<(), Fail> {
 
 #[test]
 fn groups_are_eight(rt: HostRuntime) {
-    for number in 0..8u32 {
-        assert!(rt; number_of(Group::new(number)) == number);
+    for number in 0..8u8 {
+        assert_eq!(rt;
+            Group::try_from(u32::from(number)).map(Group::number),
+            Ok(number)
+        );
     }
-    assert!(rt; number_of(Group::new(8)) == 99 && number_of(Group::new(4_294_967_295)) == 99);
-}
-
-fn number_of(group: Option<Group>) -> u32 {
-    match group {
-        Some(group) => group.number() as u32,
-        None => 99,
+    for number in [8, 4_294_967_295] {
+        assert_eq!(rt; Group::try_from(number), Err(Refusal::Group));
     }
 }

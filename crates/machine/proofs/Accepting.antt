@@ -1,5 +1,6 @@
 -- An accepted turn, as the calls of a model say it.
-use Rattle.std.proofs.Common.{◌≡◌, ℕ, ◌<◌, ◌≤◌, Bool, true, false, cond, ltb, List, set, Some, None, Ok, Option, refl, ap, ◌∙◌, subst, arith}
+use Rattle.std.proofs.Common.{◌≡◌, ℕ, ◌<◌, ◌≤◌, Bool, true, false, cond, ltb, List, set, Some, None, Ok, Option, ok_or, refl, ap, ◌∙◌, subst, arith}
+use Rattle.answers.specs.declared.refusal.Refusal.TheVariants as refusals
 use Rattle.machine.proofs.Cores.{Kept, kept, whole, wrote_whole}
 use Rattle.machine.specs.Calls.{after_run, answered, store_after, turn_answer, turn_refusal, turn_run, unless_refused}
 use Rattle.machine.specs.Models.{Model, entry_of}
@@ -18,12 +19,12 @@ use Rattle.turn.specs.Runs.{Run}
 use Rattle.turn.specs.Turns.{Ran, Turning, turns, state_after}
 use Rattle.turn.specs.declared.turned.Turned.{Turned}
 
-made_at : (k : ℕ) (q : Keys) (b : Bool) → ltb k 64 ≡ b → cond b (Some (keys k)) None ≡ Some q → (k < 64) × (q ≡ keys k)
+made_at : (k : ℕ) (q : Keys) (b : Bool) → ltb k 64 ≡ b → ok_or (cond b (Some (keys k)) None) refusals.Keys ≡ Ok q → (k < 64) × (q ≡ keys k)
 made_at k q true e h = (ltb-true k 64 e, cc)
 made_at k q false e h = let z : ◌≡◌ {A = ℕ} 0 1 = cc in absurd (omega arith)
 
 -- keys that were made are those of the number
-pub made : (k : ℕ) (q : Keys) → keys_from k ≡ Some q → (k < 64) × (q ≡ keys k)
+pub made : (k : ℕ) (q : Keys) → ok_or (keys_from k) refusals.Keys ≡ Ok q → (k < 64) × (q ≡ keys k)
 made k q h = made_at k q (ltb k 64) refl h
 
 same_turned : (a : Turned) (n : ℕ) (t : Option Trap) → a.count ≡ n → a.trap ≡ t → a ≡ record { count = n; trap = t }

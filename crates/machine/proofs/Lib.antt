@@ -1,2 +1,3 @@
 mod Cores
 mod Accepting
+mod Loading

@@ -9,7 +9,7 @@ use Rattle.pages.specs.Pages.{located}
 use Rattle.pages.specs.Relocation.{relocated, written_below}
 use Rattle.pages.specs.declared.relocation.Relocation.{Relocation}
 use Rattle.pages.specs.Settings.{entered}
-use Rattle.pages.specs.declared.setting.Setting.{Setting}
+use Rattle.pages.specs.declared.setting.Page.{Page}
 use Rattle.registers.specs.Keys.{keys}
 use Rattle.registers.specs.declared.record.State.{State}
 use Rattle.registers.specs.declared.record.State.TheVariants.{Running, Stopped}
@@ -76,7 +76,7 @@ abbrev pub after_load : Model → ℕ → Load → Model
 after_load m g l = record { records = slice_set m.records g (loaded l); pages = m.pages; core = m.core }
 
 -- a page setting: 1, 6, 7 by `accepted`
-abbrev pub after_setting : Model → ℕ → ℕ → Setting → Model
+abbrev pub after_setting : Model → ℕ → ℕ → Option Page → Model
 after_setting m g e s = record { records = m.records; pages = entered m.pages g e s; core = m.core }
 
 -- a report: 1

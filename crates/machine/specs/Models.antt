@@ -1,8 +1,8 @@
 -- A machine apart from how its core holds its words.
-use Rattle.std.specs.Prelude.{ℕ, false, List, slice_index_or}
+use Rattle.std.specs.Prelude.{ℕ, List, Option, slice_index_or}
 use Rattle.machine.specs.declared.machine.Machine.{Machine}
-use Rattle.ones.specs.Numbers.{address, word}
-use Rattle.pages.specs.declared.descriptor.Descriptor.{Descriptor}
+use Rattle.pages.specs.declared.descriptor.Window.{Window}
+use Rattle.registers.specs.Registers.{zeros}
 use Rattle.registers.specs.declared.record.Record.{Record}
 use Rattle.registers.specs.declared.record.State.TheVariants.{Running}
 use Rattle.store.specs.Meaning.{Meaning}
@@ -10,7 +10,7 @@ use Rattle.store.specs.Meaning.{Meaning}
 -- eight records, 128 descriptors, and the core: its map and its words
 pub record Model : Type 0 where
   pub records : List Record
-  pub pages : List Descriptor
+  pub pages : List (Option Window)
   pub core : Meaning
 
 abbrev pub model : {C : Type 0} → (C → Meaning) → Machine C → Model
@@ -19,7 +19,7 @@ model meaning m = record { records = m.records.all; pages = m.store.pages.entrie
 -- a group that runs, with zeros everywhere
 abbrev pub blank : Record
 blank = record {
-  registers = record { a = word 0; q = word 0; b1 = address 0; b2 = address 0; b3 = address 0; p = address 0; latch = false };
+  registers = zeros;
   state = Running;
 }
 

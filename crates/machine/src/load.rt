@@ -1,7 +1,9 @@
-ghost use Rattle.std.specs.Prelude.{◌≡◌};
-ghost use Rattle.machine.specs.Loads.{load_fits, loaded};
+ghost use Rattle.std.specs.Prelude.{◌≡◌, ◌^◌, ◌<◌, ◌≤◌, MatchResult};
+ghost use Rattle.answers.specs.declared.refusal.Refusal.TheVariants as refusals;
+ghost use Rattle.machine.specs.Loads.{running, unless_wide};
 
-use ones::{Address, Word};
+use answers::Refusal;
+use ones::Ones;
 use registers::{Record, Registers, State};
 
 // What a register load brings, in numbers from outside.
@@ -15,32 +17,35 @@ pub struct Load {
     pub p: u32,
 }
 
-impl Load {
-    // No value is too wide for its register.
-    pub(crate) fn fits(self) -> bool
-        ensures { result ≡ load_fits self }
-    {
-        self.a < 0x100_0000
-            && self.q < 0x100_0000
-            && self.b1 < 0x8000
-            && self.b2 < 0x8000
-            && self.b3 < 0x8000
-            && self.p < 0x8000
+// No value may be too wide for its register; the latch is clear.
+impl TryFrom<Load> for Registers {
+    type Error = Refusal;
+
+    ghost try_from_gives = { λ l r. r ≡ unless_wide l };
+
+    fn try_from(load: Load) -> Result<Registers, Refusal> {
+        Ok(Registers {
+            a: value(load.a)?,
+            q: value(load.q)?,
+            b1: value(load.b1)?,
+            b2: value(load.b2)?,
+            b3: value(load.b3)?,
+            p: value(load.p)?,
+            latch: false,
+        })
     }
 }
 
-// Sets all registers, clears the latch and makes the group run.
-pub(crate) fn fill(record: &mut Record, load: Load)
-    ensures { «record».new ≡ loaded load }
+fn value<const W: u32>(n: u32) -> Result<Ones<W>, Refusal>
+    ensures { MatchResult result (λ a. a.bits ≡ n) (λ e. (e ≡ refusals.Value) × (0 < W → W ≤ 48 → n < 2 ^ W → ⊥)) }
 {
-    record.registers = Registers {
-        a: Word::low(load.a as u64),
-        q: Word::low(load.q as u64),
-        b1: Address::low(load.b1 as u64),
-        b2: Address::low(load.b2 as u64),
-        b3: Address::low(load.b3 as u64),
-        p: Address::low(load.p as u64),
-        latch: false,
-    };
+    Ones::new(u64::from(n)).ok_or(Refusal::Value)
+}
+
+// Sets all registers and makes the group run.
+pub(crate) fn fill(record: &mut Record, registers: Registers)
+    ensures { «record».new ≡ running registers }
+{
+    record.registers = registers;
     record.state = State::Running;
 }

@@ -1,14 +1,13 @@
-ghost use Rattle.std.specs.Prelude.{◌≡◌, replicate};
+ghost use Rattle.std.specs.Prelude.{◌≡◌, None, replicate};
 ghost use Rattle.machine.specs.Calls.{after_load, after_run, after_setting, answered, load_refusal, report_refusal, store_after, turn_answer, turn_refusal, turn_run, unless_refused};
 ghost use Rattle.machine.specs.Models.{Model, blank, model, record_of};
 ghost use Rattle.pages.specs.Settings.{accepted};
-ghost use Rattle.pages.specs.declared.descriptor.Descriptor.TheVariants.{Absent};
 
 use crate::load::Load;
 use crate::records::Records;
 use answers::Refusal;
 use pages::{Group, Relocation, Setting};
-use registers::{Keys, Record};
+use registers::{Keys, Record, Registers};
 use store::Faithful;
 use turn::Turned;
 
@@ -16,6 +15,7 @@ use turn::Turned;
 const LENGTH: u32 = 10_000;
 
 // Eight groups over a core, each behind its own page descriptors.
+// Its clauses take a model by `model`, and not by `impl Model`: the meaning of a core holds functions, and no value of a model may.
 #[derive(Drop)]
 pub struct Machine<C> {
     records: Records,
@@ -24,7 +24,7 @@ pub struct Machine<C> {
 
 impl<C: Faithful> Machine<C> {
     pub fn new(core: C) -> Machine<C>
-        ensures model { model C.Store.meaning result ≡ record { records = replicate 8 blank; pages = replicate 128 Absent; core = C.Store.meaning core } }
+        ensures model { model C.Store.meaning result ≡ record { records = replicate 8 blank; pages = replicate 128 None; core = C.Store.meaning core } }
         ensures core { result.store.below ≡ core }
     {
         Machine {
@@ -39,15 +39,11 @@ impl<C: Faithful> Machine<C> {
         ensures store { self.new.store ≡ unless_refused (turn_refusal (model C.Store.meaning self.old) group length keys) (store_after C.Store.meaning C.Store.wrote group (turn_run (model C.Store.meaning self.old) group length keys) self.old.store) self.old.store }
         ensures model { model C.Store.meaning self.new ≡ unless_refused (turn_refusal (model C.Store.meaning self.old) group length keys) (after_run (model C.Store.meaning self.old) group (turn_run (model C.Store.meaning self.old) group length keys)) (model C.Store.meaning self.old) }
     {
-        let Some(group) = Group::new(group) else {
-            return Err(Refusal::Group);
-        };
+        let group = Group::try_from(group)?;
         if length < 1 || length > LENGTH {
             return Err(Refusal::Length);
         }
-        let Some(keys) = Keys::new(keys) else {
-            return Err(Refusal::Keys);
-        };
+        let keys = Keys::try_from(keys)?;
         let mut record = self.records.get(group);
         let Some(turned) = turn::turn(&mut record, &mut self.store, group, keys, length) else {
             return Err(Refusal::Stopped);
@@ -62,13 +58,9 @@ impl<C: Faithful> Machine<C> {
         ensures model { model C.Store.meaning self.new ≡ unless_refused (load_refusal group load) (after_load (model C.Store.meaning self.old) group load) (model C.Store.meaning self.old) }
         ensures store { self.new.store ≡ self.old.store }
     {
-        let Some(group) = Group::new(group) else {
-            return Err(Refusal::Group);
-        };
-        if !load.fits() {
-            return Err(Refusal::Value);
-        }
-        self.records.load(group, load);
+        let group = Group::try_from(group)?;
+        let registers = Registers::try_from(load)?;
+        self.records.load(group, registers);
         Ok(())
     }
 
@@ -85,10 +77,7 @@ impl<C: Faithful> Machine<C> {
         ensures answer { result ≡ answered (report_refusal group) (record_of (model C.Store.meaning self.old) group) }
         ensures same { self.new ≡ self.old }
     {
-        match Group::new(group) {
-            Some(group) => Ok(self.records.get(group)),
-            None => Err(Refusal::Group),
-        }
+        Ok(self.records.get(Group::try_from(group)?))
     }
 
     // The core under its page file, to look at.

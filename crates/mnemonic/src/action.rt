@@ -39,8 +39,7 @@ fn idle(action: Action) -> bool
     ensures { result ≡ idle action }
 {
     match action {
-        Action::IndexJump(_, index) => matches!(index, Index::B0),
-        Action::Enter(Target::Index(index)) => matches!(index, Index::B0),
+        Action::IndexJump(_, index) | Action::Enter(Target::Index(index)) => index == Index::B0,
         _ => false,
     }
 }

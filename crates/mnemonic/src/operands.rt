@@ -22,9 +22,11 @@ impl fmt::Display for Operands {
 }
 
 pub(crate) fn octal(field: Address) -> OctalField
-    ensures { result.0 ≡ field.bits }
+    ensures { result.number ≡ field.bits }
 {
-    OctalField(field.bits() as u32)
+    OctalField {
+        number: field.bits() as u32,
+    }
 }
 
 fn suffix(index: Index) -> &'static str

@@ -5,7 +5,8 @@ ghost use Rattle.ones.specs.Numbers.{below, alike, value};
 use crate::number::Ones;
 
 impl<const W: u32> Ones<W> {
-    // Signed order, in which negative zero lies just below positive zero.
+    // Signed order, in which negative zero lies just below positive zero. Not `PartialOrd`: the machine has the plain order too,
+    // and its names tell the two apart.
     pub fn below(self, other: Ones<W>) -> bool
         ensures answer { result ≡ below self.entry other.entry }
         ensures signed { Decides result ((value self.entry <ℤ value other.entry) ⊎ ((self.entry.bits ≡ ones W) × (other.entry.bits ≡ 0))) }
@@ -13,7 +14,7 @@ impl<const W: u32> Ones<W> {
         self.flipped() < other.flipped()
     }
 
-    // Equality, with the two zeros alike.
+    // Equality, with the two zeros alike. Not `PartialEq`: that one tells the zeros apart, as the machine does elsewhere.
     pub fn alike(self, other: Ones<W>) -> bool
         ensures answer { result ≡ alike self.entry other.entry }
         ensures signed { Decides result (value self.entry ≡ value other.entry) }

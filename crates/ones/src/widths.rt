@@ -4,6 +4,7 @@ ghost use Rattle.ones.specs.Numbers.{address, counted, word, with_low, double, e
 
 use crate::{Address, Double, Word};
 
+// `low` stands once for each width, over the one `of`: a public function asks nothing of its caller, and of width 0 or 49 there is no number.
 impl Address {
     // The low 15 bits of n.
     pub fn low(n: u64) -> Address
@@ -18,7 +19,7 @@ impl Address {
         ensures answer { result ≡ counted self n }
         ensures bits { result.bits ≡ (self.bits + n) % 2 ^ 15 }
     {
-        Address::low(self.bits + n as u64)
+        Address::low(self.bits + u64::from(n))
     }
 
     // The word with copies of the sign above the number.

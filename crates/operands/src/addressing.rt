@@ -22,16 +22,18 @@ pub fn effective<S: Store>(
     ensures { result ≡ effective 64 (reads_at (S.Store.meaning store.now) group.number) registers.now place }
 {
     let mut place = place;
-    let mut left = INDIRECT_WORDS;
-    while place.indirect {
-        if left == 0 {
-            return Ok(None);
+    for _read in 0..INDIRECT_WORDS {
+        if !place.indirect {
+            break;
         }
         let word = view::read(store, group, indexed(registers, place.m, place.index))?;
         place = Place::of(place.mode, word);
-        left -= 1;
     }
-    Ok(Some(indexed(registers, place.m, place.index)))
+    if place.indirect {
+        Ok(None)
+    } else {
+        Ok(Some(indexed(registers, place.m, place.index)))
+    }
 }
 
 fn indexed(registers: &Registers, m: Address, b: Index) -> Address

@@ -1,11 +1,11 @@
 -- A store whose addresses go through a page file.
-use Rattle.std.specs.Prelude.{◌≡◌, ℕ, Bool, true, false, cond, List, Ok, Err, Result}
-use Rattle.std.proofs.Common.{ap, arith}
+use Rattle.std.specs.Prelude.{◌≡◌, ℕ, Bool, true, false, cond, List, Ok, Err, Option, Result}
+use Rattle.std.proofs.Common.{ap, arith, refl}
 use Rattle.answers.specs.declared.cause.Cause.TheVariants.{Protected}
 use Rattle.answers.specs.declared.fault.Fault.{Fault}
 use Rattle.answers.specs.declared.layer.Layer.TheVariants as layers
 use Rattle.pages.specs.Pages.{located}
-use Rattle.pages.specs.declared.descriptor.Descriptor.{Descriptor}
+use Rattle.pages.specs.declared.descriptor.Window.{Window}
 use Rattle.pages.specs.declared.file.Place.{Place}
 use Rattle.std.proofs.lemmas.Bool.{le-ltb}
 use Rattle.store.specs.Meaning.{Meaning, Sound, Within, Follows, after, stored, with_word}
@@ -27,7 +27,7 @@ abbrev pub writable : Result Place Fault → ℕ → Result Place Fault
 writable r a = through r (λ p. cond p.write (Ok p) (Err (read_only a)))
 
 -- the store m under the page file ds
-abbrev pub relocated : List Descriptor → Meaning → Meaning
+abbrev pub relocated : List (Option Window) → Meaning → Meaning
 relocated ds m = record {
   size = 262144;
   cells = m.cells;
@@ -54,7 +54,7 @@ follows_through : (a : ℕ) (r : Result Place Fault) (m : Meaning) → Sound m �
 follows_through a (Ok p) m h = follows_flagged a p.write (m.cell p.address) (m.takes p.address) (h.follows p.address)
 follows_through a (Err e) m h = tt
 
-pub relocated_sound : (ds : List Descriptor) (m : Meaning) → Sound m → Sound (relocated ds m)
+pub relocated_sound : (ds : List (Option Window)) (m : Meaning) → Sound m → Sound (relocated ds m)
 relocated_sound ds m h = record {
   few = omega arith;
   past_cell = λ a p. rw (le-ltb a 262144 p);
@@ -64,20 +64,20 @@ relocated_sound ds m h = record {
   narrow = h.narrow;
 }
 
--- what the page file lets through is taken below
-flag_taken : (a : ℕ) (w : Bool) (r : Result (Unit {0}) Fault) → flagged a w r ≡ Ok tt → r ≡ Ok tt
-flag_taken a true r h = h
-flag_taken a false r h = let z : ◌≡◌ {A = ℕ} 0 1 = cc in absurd (omega arith)
+-- what the page file lets through has its flag, and is taken below
+pub flag_set : (a : ℕ) (w : Bool) (r : Result (Unit {0}) Fault) → flagged a w r ≡ Ok tt → (w ≡ true) × (r ≡ Ok tt)
+flag_set a true r h = (refl, h)
+flag_set a false r h = cc
 
 -- a write that is taken, seen through the page file
-pub writes_at : {C : Type 0} (ds : List Descriptor) (meaning : C → Meaning) (wrote : C → ℕ → ℕ → C) (c : C) (a v : ℕ) (r : Result Place Fault)
+pub writes_at : {C : Type 0} (ds : List (Option Window)) (meaning : C → Meaning) (wrote : C → ℕ → ℕ → C) (c : C) (a v : ℕ) (r : Result Place Fault)
     → ((b : ℕ) → (meaning c).takes b ≡ Ok tt → meaning (wrote c b v) ≡ after (Ok tt) (meaning c) b v)
     → through r (λ p. flagged a p.write ((meaning c).takes p.address)) ≡ Ok tt
     → meaning (written_below wrote c r v) ≡ with_word (meaning c) (stored (through r (λ p. (meaning c).cell p.address)) (meaning c).word v)
-writes_at ds meaning wrote c a v (Ok p) h t = h p.address (flag_taken a p.write ((meaning c).takes p.address) t)
-writes_at ds meaning wrote c a v (Err e) h t = let z : ◌≡◌ {A = ℕ} 0 1 = cc in absurd (omega arith)
+writes_at ds meaning wrote c a v (Ok p) h t = h p.address (flag_set a p.write ((meaning c).takes p.address) t).1
+writes_at ds meaning wrote c a v (Err e) h t = cc
 
-pub relocated_writes : {C : Type 0} (ds : List Descriptor) (meaning : C → Meaning) (wrote : C → ℕ → ℕ → C) (c : C) (a v : ℕ)
+pub relocated_writes : {C : Type 0} (ds : List (Option Window)) (meaning : C → Meaning) (wrote : C → ℕ → ℕ → C) (c : C) (a v : ℕ)
     → ((b : ℕ) → (meaning c).takes b ≡ Ok tt → meaning (wrote c b v) ≡ after (Ok tt) (meaning c) b v)
     → (relocated ds (meaning c)).takes a ≡ Ok tt
     → relocated ds (meaning (written_below wrote c (located ds a) v)) ≡ after (Ok tt) (relocated ds (meaning c)) a v

@@ -11,8 +11,5 @@ pub struct Window {
     ghost fits: { T (lawful page start length) },
 }
 
-#[derive(Clone, Copy, PartialEq, Eq, Debug)]
-pub enum Descriptor {
-    Absent,
-    Mapped(Window),
-}
+// An entry of the page file; none where no page is.
+pub type Descriptor = Option<Window>;

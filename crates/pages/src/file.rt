@@ -1,10 +1,11 @@
-ghost use Rattle.std.specs.Prelude.{◌≡◌, replicate};
+ghost use Rattle.std.specs.Prelude.{◌≡◌, None, replicate};
+ghost use Rattle.answers.specs.declared.layer.Layer.TheVariants as layers;
 ghost use Rattle.pages.specs.Pages.{located};
 ghost use Rattle.pages.specs.Relocation.{writable};
 ghost use Rattle.pages.specs.Settings.{accepted, entered};
-ghost use Rattle.pages.specs.declared.descriptor.Descriptor.TheVariants.{Absent};
 
-use crate::descriptor::Descriptor;
+use crate::descriptor::{Descriptor, Window};
+use crate::group::Group;
 use crate::setting::Setting;
 use answers::{Cause, Fault, Layer, Refusal};
 use store::WORDS;
@@ -26,10 +27,10 @@ impl PageFile {
     pub(crate) const LAYER: Layer = Layer::Relocation;
 
     pub(crate) fn new() -> PageFile
-        ensures { result.entries ≡ replicate 128 Absent }
+        ensures { result.entries ≡ replicate 128 None }
     {
         PageFile {
-            entries: [Descriptor::Absent; 128],
+            entries: [None; 128],
         }
     }
 
@@ -38,14 +39,12 @@ impl PageFile {
         ensures answer { result ≡ accepted group entry setting }
         ensures after { self.new.entries ≡ entered self.old.entries group entry setting }
     {
-        if group > 7 {
-            return Err(Refusal::Group);
-        }
+        let group = Group::try_from(group)?;
         if entry > 15 {
             return Err(Refusal::Entry);
         }
-        let descriptor = setting.descriptor()?;
-        self.entries[(16 * group + entry) as usize] = descriptor;
+        let descriptor = setting.map(Window::try_from).transpose()?;
+        self.entries[(16 * u32::from(group.number) + entry) as usize] = descriptor;
         Ok(())
     }
 
@@ -53,28 +52,18 @@ impl PageFile {
         ensures { result ≡ located self.now.entries address }
     {
         if address >= WORDS {
-            return Err(Fault {
-                cause: Cause::Beyond,
-                layer: Self::LAYER,
-                address,
-            });
+            return Err(Self::fault(Cause::Beyond, address));
         }
         let quarter = address / 512 % 4;
         let descriptor = self.entries[(address / 2048) as usize];
         match descriptor {
-            Descriptor::Mapped(window) if quarter < window.length as u32 => {
-                Ok(Place {
-                    address: window.page as u32 * 2048
-                        + (window.start as u32 + quarter) * 512
-                        + address % 512,
-                    write: window.write,
-                })
-            }
-            _ => Err(Fault {
-                cause: Cause::Unmapped,
-                layer: Self::LAYER,
-                address,
+            Some(window) if quarter < u32::from(window.length) => Ok(Place {
+                address: u32::from(window.page) * 2048
+                    + (u32::from(window.start) + quarter) * 512
+                    + address % 512,
+                write: window.write,
             }),
+            _ => Err(Self::fault(Cause::Unmapped, address)),
         }
     }
 
@@ -86,11 +75,17 @@ impl PageFile {
         if place.write {
             Ok(place)
         } else {
-            Err(Fault {
-                cause: Cause::Protected,
-                layer: Self::LAYER,
-                address,
-            })
+            Err(Self::fault(Cause::Protected, address))
+        }
+    }
+
+    fn fault(cause: Cause, address: u32) -> Fault
+        ensures { result ≡ record { cause = cause; layer = layers.Relocation; address = address } }
+    {
+        Fault {
+            cause,
+            layer: Self::LAYER,
+            address,
         }
     }
 }

@@ -1,4 +1,7 @@
-ghost use Rattle.std.specs.Prelude.{◌≡◌, ◌<◌, ◌≤◌, MatchOption};
+ghost use Rattle.std.specs.Prelude.{◌≡◌, ◌<◌, ◌≤◌, MatchResult};
+ghost use Rattle.answers.specs.declared.refusal.Refusal.TheVariants as refusals;
+
+use answers::Refusal;
 
 // One of the eight program groups.
 #[derive(Clone, Copy, PartialEq, Eq, Debug)]
@@ -7,17 +10,21 @@ pub struct Group {
     ghost fits: { number < 8 },
 }
 
-impl Group {
-    pub fn new(n: u32) -> Option<Group>
-        ensures { MatchOption result (8 ≤ n) (λ g. g.number ≡ n) }
-    {
+impl TryFrom<u32> for Group {
+    type Error = Refusal;
+
+    ghost try_from_gives = { λ n r. MatchResult r (λ g. g.number ≡ n) (λ e. (e ≡ refusals.Group) × (8 ≤ n)) };
+
+    fn try_from(n: u32) -> Result<Group, Refusal> {
         if n < 8 {
-            Some(Group { number: n as u8 })
+            Ok(Group { number: n as u8 })
         } else {
-            None
+            Err(Refusal::Group)
         }
     }
+}
 
+impl Group {
     pub fn number(self) -> u8
         ensures answer { result ≡ self.number }
         ensures fits { result < 8 }

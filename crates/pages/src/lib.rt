@@ -13,5 +13,5 @@ pub use descriptor::{Descriptor, Window};
 pub use file::Place;
 pub use group::Group;
 pub use relocation::Relocation;
-pub use setting::Setting;
+pub use setting::{Page, Setting};
 pub use view::original;

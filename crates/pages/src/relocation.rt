@@ -1,9 +1,8 @@
-ghost use Rattle.std.specs.Prelude.{◌≡◌, replicate};
+ghost use Rattle.std.specs.Prelude.{◌≡◌, None, replicate};
 ghost use Rattle.pages.specs.Pages.{located};
 ghost use Rattle.pages.specs.Reach.{Exact};
 ghost use Rattle.pages.specs.Relocation.{relocated, relocated_sound, relocated_writes, written_below};
 ghost use Rattle.pages.specs.Settings.{accepted, entered};
-ghost use Rattle.pages.specs.declared.descriptor.Descriptor.TheVariants.{Absent};
 
 use crate::file::PageFile;
 use crate::setting::Setting;
@@ -11,6 +10,7 @@ use answers::{Fault, Layer, Refusal};
 use store::{Faithful, Store};
 
 // The store below, by way of the page file.
+// Clauses name its two parts, and no view of both: a setting changes the one alone, a write the other.
 #[derive(Drop)]
 pub struct Relocation<C> {
     pub(crate) below: C,
@@ -20,8 +20,8 @@ pub struct Relocation<C> {
 impl<C: Store> Relocation<C> {
     // All descriptors are absent at first.
     pub fn new(below: C) -> Relocation<C>
-        ensures meaning { relocated result.pages.entries (C.Store.meaning result.below) ≡ relocated (replicate 128 Absent) (C.Store.meaning below) }
-        ensures parts { (result.below ≡ below) × (result.pages.entries ≡ replicate 128 Absent) }
+        ensures meaning { relocated result.pages.entries (C.Store.meaning result.below) ≡ relocated (replicate 128 None) (C.Store.meaning below) }
+        ensures parts { (result.below ≡ below) × (result.pages.entries ≡ replicate 128 None) }
     {
         Relocation {
             below,

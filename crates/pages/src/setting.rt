@@ -1,45 +1,43 @@
 ghost use Rattle.std.specs.Prelude.{◌≡◌};
-ghost use Rattle.pages.specs.Settings.{described};
+ghost use Rattle.pages.specs.Settings.{windowed};
 
-use crate::descriptor::{Descriptor, Window};
+use crate::descriptor::Window;
 use answers::Refusal;
 
-// What a page entry is to become, in numbers from outside.
+// A page that an entry is to name, in numbers from outside.
 #[derive(Clone, Copy, PartialEq, Eq, Debug)]
-pub enum Setting {
-    Absent,
-    Page {
-        page: u32,
-        start: u32,
-        length: u32,
-        write: bool,
-    },
+pub struct Page {
+    pub page: u32,
+    pub start: u32,
+    pub length: u32,
+    pub write: bool,
 }
 
-impl Setting {
-    // The descriptor, where the numbers are within its limits.
-    pub fn descriptor(self) -> Result<Descriptor, Refusal>
-        ensures { result ≡ described self }
-    {
-        match self {
-            Setting::Absent => Ok(Descriptor::Absent),
-            Setting::Page {
-                page,
-                start,
-                length,
+// What a page entry is to become; none where it is to name no page.
+pub type Setting = Option<Page>;
+
+// The window, where the numbers are within its limits.
+impl TryFrom<Page> for Window {
+    type Error = Refusal;
+
+    ghost try_from_gives = { λ p r. r ≡ windowed p };
+
+    fn try_from(setting: Page) -> Result<Window, Refusal> {
+        let Page {
+            page,
+            start,
+            length,
+            write,
+        } = setting;
+        if page < 128 && start < 4 && (1..=4).contains(&length) && start + length <= 4 {
+            Ok(Window {
+                page: page as u8,
+                start: start as u8,
+                length: length as u8,
                 write,
-            } => {
-                if page < 128 && start < 4 && length >= 1 && length <= 4 && start + length <= 4 {
-                    Ok(Descriptor::Mapped(Window {
-                        page: page as u8,
-                        start: start as u8,
-                        length: length as u8,
-                        write,
-                    }))
-                } else {
-                    Err(Refusal::Descriptor)
-                }
-            }
+            })
+        } else {
+            Err(Refusal::Descriptor)
         }
     }
 }

@@ -1,1 +1,1 @@
-mod Lists
+mod Padded

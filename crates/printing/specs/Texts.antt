@@ -1,5 +1,5 @@
 -- What is printed of an answer.
-use Rattle.std.specs.Prelude.{ℕ, zero, suc, ◌*◌, ◌/◌, ◌%◌, ◌^◌, cond, List, [], ◌∷◌, ◌++◌, Some, None, Ok, Err, codes, decimal, Option, Result, nat_lt}
+use Rattle.std.specs.Prelude.{ℕ, zero, suc, ◌*◌, ◌/◌, ◌%◌, ◌^◌, cond, List, [], ◌∷◌, ◌++◌, Some, None, Ok, Err, codes, decimal, Option, Result, nat_lt, flat_map}
 use Rattle.answers.specs.Names.{cause_name, layer_name, refusal_name}
 use Rattle.answers.specs.Numbers.{cause_number, layer_number, refusal_number, refusal_fault}
 use Rattle.answers.specs.declared.fault.Fault.{Fault}
@@ -23,7 +23,7 @@ abbrev pub octal_address : ℕ → List ℕ
 octal_address n = cond (nat_lt n 262144) (octal 6 n) (octal 11 n)
 
 -- two digits of the six jump keys
-unfoldable pub octal_keys : ℕ → List ℕ
+abbrev pub octal_keys : ℕ → List ℕ
 octal_keys n = octal 2 n
 
 -- a fault as three numbers
@@ -57,8 +57,7 @@ console_refused c r = text (call_name c) (codes " refused " ∷ decimal (refusal
 
 -- numbers, each after a blank
 abbrev pub spaced : List ℕ → List ℕ
-spaced [] = []
-spaced (n ∷ ns) = 32 ∷ (decimal n ++ spaced ns)
+spaced ns = flat_map (λ n. 32 ∷ decimal n) ns
 
 abbrev pub image_head : ℕ → ℕ → List ℕ
 image_head keys len = text (codes "image ok ") (decimal keys ∷ codes " " ∷ decimal len ∷ [])

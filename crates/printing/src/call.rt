@@ -1,4 +1,4 @@
-ghost use Rattle.std.specs.Prelude.{◌≡◌, Some};
+ghost use Rattle.std.specs.Prelude.{Some};
 ghost use Rattle.printing.specs.Calls.{call_name, done};
 
 use std::fmt;
@@ -14,26 +14,18 @@ pub enum Call {
     Where,
 }
 
-impl Call {
-    fn name(self) -> &'static str
-        ensures { result.now ≡ call_name self }
-    {
-        match self {
+impl fmt::Display for Call {
+    ghost output = { λ x. Some (call_name x) };
+
+    fn fmt<W: fmt::Write>(&self, f: &mut fmt::Formatter<W>) -> fmt::Result {
+        f.write_str(match self {
             Call::Range => "range",
             Call::Image => "image",
             Call::Page => "page",
             Call::Absent => "absent",
             Call::Read => "read",
             Call::Where => "where",
-        }
-    }
-}
-
-impl fmt::Display for Call {
-    ghost output = { λ x. Some (call_name x) };
-
-    fn fmt<W: fmt::Write>(&self, f: &mut fmt::Formatter<W>) -> fmt::Result {
-        f.write_str(self.name())
+        })
     }
 }
 
@@ -45,7 +37,6 @@ impl fmt::Display for Done {
     ghost output = { λ x. Some (done x.0) };
 
     fn fmt<W: fmt::Write>(&self, f: &mut fmt::Formatter<W>) -> fmt::Result {
-        let call = self.0;
-        write!(f, "{call} ok")
+        write!(f, "{} ok", self.0)
     }
 }

@@ -1,29 +1,31 @@
-ghost use Rattle.std.specs.Prelude.{◌≡◌, ◌*◌, ◌/◌, ◌%◌, ◌^◌, ◌<◌, Some};
-ghost use Rattle.printing.specs.Texts.{octal, octal_address, octal_keys};
+ghost use Rattle.std.specs.Prelude.{◌<◌, ◌≤◌, Some};
+ghost use Rattle.printing.specs.Texts.{octal, octal_address};
 
 use std::fmt;
 
-// A word of 24 bits, in eight octal digits.
+// The low octal digits of a number: one at least, and no more than the 21 that fit any u64.
 #[derive(Clone, Copy, PartialEq, Eq, Debug)]
-pub struct OctalWord(pub u32);
+pub struct Octal<const DIGITS: usize> {
+    pub number: u32,
+    ghost some_digit: { 0 < DIGITS },
+    ghost fits_u64: { DIGITS ≤ 21 },
+}
 
-impl fmt::Display for OctalWord {
-    ghost output = { λ x. Some (octal 8 x.0) };
+// A word of 24 bits.
+pub type OctalWord = Octal<8>;
+
+// An address field of 15 bits.
+pub type OctalField = Octal<5>;
+
+// The six jump keys.
+pub type OctalKeys = Octal<2>;
+
+impl<const DIGITS: usize> fmt::Display for Octal<DIGITS> {
+    ghost output = { λ x. Some (octal DIGITS x.number) };
 
     fn fmt<W: fmt::Write>(&self, f: &mut fmt::Formatter<W>) -> fmt::Result {
-        let n = self.0;
-        write!(
-            f,
-            "{}{}{}{}{}{}{}{}",
-            digit(n, 7),
-            digit(n, 6),
-            digit(n, 5),
-            digit(n, 4),
-            digit(n, 3),
-            digit(n, 2),
-            digit(n, 1),
-            digit(n, 0)
-        )
+        let low = u64::from(self.number) % (1 << (3 * DIGITS));
+        write!(f, "{low:0DIGITS$o}")
     }
 }
 
@@ -35,68 +37,11 @@ impl fmt::Display for OctalAddress {
     ghost output = { λ x. Some (octal_address x.0) };
 
     fn fmt<W: fmt::Write>(&self, f: &mut fmt::Formatter<W>) -> fmt::Result {
-        let n = self.0;
-        if n < 0o1_000_000 {
-            write!(
-                f,
-                "{}{}{}{}{}{}",
-                digit(n, 5),
-                digit(n, 4),
-                digit(n, 3),
-                digit(n, 2),
-                digit(n, 1),
-                digit(n, 0)
-            )
+        let number = self.0;
+        if number < 0o1_000_000 {
+            write!(f, "{}", Octal::<6> { number })
         } else {
-            write!(
-                f,
-                "{}{}{}{}",
-                digit(n, 10),
-                digit(n, 9),
-                digit(n, 8),
-                OctalWord(n)
-            )
+            write!(f, "{}", Octal::<11> { number })
         }
     }
-}
-
-// An address field of 15 bits, in five octal digits.
-#[derive(Clone, Copy, PartialEq, Eq, Debug)]
-pub struct OctalField(pub u32);
-
-impl fmt::Display for OctalField {
-    ghost output = { λ x. Some (octal 5 x.0) };
-
-    fn fmt<W: fmt::Write>(&self, f: &mut fmt::Formatter<W>) -> fmt::Result {
-        let n = self.0;
-        write!(
-            f,
-            "{}{}{}{}{}",
-            digit(n, 4),
-            digit(n, 3),
-            digit(n, 2),
-            digit(n, 1),
-            digit(n, 0)
-        )
-    }
-}
-
-// The six jump keys, in two octal digits.
-#[derive(Clone, Copy, PartialEq, Eq, Debug)]
-pub struct OctalKeys(pub u8);
-
-impl fmt::Display for OctalKeys {
-    ghost output = { λ x. Some (octal_keys x.0) };
-
-    fn fmt<W: fmt::Write>(&self, f: &mut fmt::Formatter<W>) -> fmt::Result {
-        let n = u32::from(self.0);
-        write!(f, "{}{}", digit(n, 1), digit(n, 0))
-    }
-}
-
-fn digit(n: u32, place: u32) -> u32
-    requires { place < 11 }
-    ensures { result ≡ n / 2 ^ (3 * place) % 8 }
-{
-    (n >> (3 * place)) % 8
 }

@@ -13,8 +13,7 @@ impl fmt::Display for PlainWord {
     ghost output = { λ x. Some (plain_word x.0) };
 
     fn fmt<W: fmt::Write>(&self, f: &mut fmt::Formatter<W>) -> fmt::Result {
-        let word = self.0;
-        write!(f, "read ok {word}")
+        write!(f, "read ok {}", self.0)
     }
 }
 
@@ -33,7 +32,7 @@ impl fmt::Display for ConsoleWord {
             f,
             "{}  {}",
             OctalAddress(self.address),
-            OctalWord(self.word)
+            OctalWord { number: self.word }
         )
     }
 }

@@ -1,10 +1,14 @@
 -- Registers with one of them changed.
-use Rattle.std.specs.Prelude.{ℕ, Bool, ◌||◌}
-use Rattle.ones.specs.Numbers.{address, counted}
+use Rattle.std.specs.Prelude.{ℕ, Bool, false, ◌||◌}
+use Rattle.ones.specs.Numbers.{address, counted, word}
 use Rattle.ones.specs.declared.number.Ones.{Ones}
 use Rattle.registers.specs.declared.index.Index.{Index}
 use Rattle.registers.specs.declared.index.Index.TheVariants.{B0, B1, B2, B3}
 use Rattle.registers.specs.declared.registers.Registers.{Registers}
+
+-- zeros everywhere, and the latch clear
+abbrev pub zeros : Registers
+zeros = record { a = word 0; q = word 0; b1 = address 0; b2 = address 0; b3 = address 0; p = address 0; latch = false }
 
 -- what an index register holds; B0 reads as zero
 abbrev pub index : Registers → Index → Ones 15

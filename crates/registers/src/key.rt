@@ -1,30 +1,36 @@
-ghost use Rattle.std.specs.Prelude.{◌≡◌, ◌<◌};
+ghost use Rattle.std.specs.Prelude.{◌≡◌, ◌<◌, ok_or};
+ghost use Rattle.answers.specs.declared.refusal.Refusal.TheVariants as refusals;
 ghost use Rattle.registers.specs.Keys.{key_set, key_weight, keys_from};
 
 use crate::keys::Keys;
+use answers::Refusal;
 
-// One of the jump keys.
+// One of the jump keys, by the worth of its bit.
 #[derive(Clone, Copy, PartialEq, Eq, Debug)]
 pub enum Key {
-    One,
-    Two,
-    Three,
-    Four,
-    Five,
-    Six,
+    One = 1,
+    Two = 2,
+    Three = 4,
+    Four = 8,
+    Five = 16,
+    Six = 32,
+}
+
+impl TryFrom<u32> for Keys {
+    type Error = Refusal;
+
+    ghost try_from_gives = { λ n r. r ≡ ok_or (keys_from n) refusals.Keys };
+
+    fn try_from(n: u32) -> Result<Keys, Refusal> {
+        if n < 64 {
+            Ok(Keys { bits: n as u8 })
+        } else {
+            Err(Refusal::Keys)
+        }
+    }
 }
 
 impl Keys {
-    pub fn new(n: u32) -> Option<Keys>
-        ensures { result ≡ keys_from n }
-    {
-        if n < 64 {
-            Some(Keys { bits: n as u8 })
-        } else {
-            None
-        }
-    }
-
     pub fn set(self, key: Key) -> bool
         ensures { result ≡ key_set self key }
     {
@@ -38,13 +44,6 @@ impl Key {
         ensures answer { result ≡ key_weight self }
         ensures some { 0 < result }
     {
-        match self {
-            Key::One => 1,
-            Key::Two => 2,
-            Key::Three => 4,
-            Key::Four => 8,
-            Key::Five => 16,
-            Key::Six => 32,
-        }
+        self as u8
     }
 }

@@ -1,6 +1,7 @@
 use crate::registers::Registers;
 use crate::trap::Trap;
 
+// No Option: how a step came out is matched together with the state that it leaves, in place in the record, and there each is named.
 #[derive(Clone, Copy, PartialEq, Eq, Debug)]
 pub enum State {
     Running,

@@ -1,5 +1,5 @@
 ghost use Rattle.std.specs.Prelude.{◌≡◌};
-ghost use Rattle.registers.specs.Registers.{index, with_index, with_p};
+ghost use Rattle.registers.specs.Registers.{index, with_index, with_p, zeros};
 ghost use Rattle.ones.specs.Numbers.{counted};
 
 use crate::index::Index;
@@ -17,6 +17,22 @@ pub struct Registers {
     pub p: Address,
     // a sum has overflowed since the last register load
     pub latch: bool,
+}
+
+impl Default for Registers {
+    ghost is_default = { λ r. r ≡ zeros };
+
+    fn default() -> Registers {
+        Registers {
+            a: Word::low(0),
+            q: Word::low(0),
+            b1: Address::low(0),
+            b2: Address::low(0),
+            b3: Address::low(0),
+            p: Address::low(0),
+            latch: false,
+        }
+    }
 }
 
 impl Registers {

@@ -1,5 +1,5 @@
 -- What several rows of the instruction table share.
-use Rattle.std.specs.Prelude.{ℕ, zero, suc, ◌-◌, ◌%◌, ◌^◌, Bool, cond, not, [], ◌∷◌, Some, None, Ok, Option, Result, ◌==◌, nat_le, nat_lt}
+use Rattle.std.specs.Prelude.{◌≡◌, ℕ, zero, suc, ◌-◌, ◌%◌, ◌^◌, Bool, cond, not, [], ◌∷◌, Some, None, Ok, Option, Result, ◌==◌, nat_le, nat_lt}
 use Rattle.answers.specs.declared.fault.Fault.{Fault}
 use Rattle.instruction.specs.Places.{placed}
 use Rattle.instruction.specs.declared.action.Count.{Count}
@@ -61,6 +61,12 @@ abbrev pub combined : (Ones 15 → Ones 15 → Ones 15) → (Ones 24 → Ones 24
 combined f g (targets.Index b) y r = with_index r b (f (index r b) y)
 combined f g (targets.A e) y r = with_a r (g r.a (widened e y))
 combined f g (targets.Q e) y r = with_q r (g r.q (widened e y))
+
+-- the same, where f and g tell which values may come of the register and y; P goes on by one
+abbrev pub Combines : (Ones 15 → Ones 15 → Ones 15 → Type 0) → (Ones 24 → Ones 24 → Ones 24 → Type 0) → Target → Ones 15 → Registers → Registers → Type 0
+Combines f g (targets.Index b) y r r' = (x : Ones 15) × f (index r b) y x × (r' ≡ on 1 (with_index r b x))
+Combines f g (targets.A e) y r r' = (x : Ones 24) × g r.a (widened e y) x × (r' ≡ on 1 (with_a r x))
+Combines f g (targets.Q e) y r r' = (x : Ones 24) × g r.q (widened e y) x × (r' ≡ on 1 (with_q r x))
 
 -- the second of two numbers
 abbrev pub second : {w : ℕ} → Ones w → Ones w → Ones w

@@ -21,7 +21,7 @@ pub(crate) fn by_index(registers: &mut Registers, count: Count, b: Index, m: Add
     ensures { registers.new ≡ iji count b m registers.old }
 {
     let value = registers.index(b);
-    if value.bits() == 0 {
+    if value == Address::low(0) {
         registers.go_on(1);
     } else {
         registers.set_index(b, counted(count, value));

@@ -35,6 +35,7 @@ pub(crate) fn set_both(registers: &mut Registers, both: Double)
 fn shifted_by<const W: u32>(k: Address, x: Ones<W>) -> Ones<W>
     ensures { result ≡ shifted_by k x.entry }
 {
+    // the sign of k, of whose bits the count is made
     if k.bits() >= 0o40000 {
         x.right((k.complement().bits() % 64) as u32)
     } else {

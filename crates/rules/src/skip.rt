@@ -18,11 +18,11 @@ pub(crate) fn equal(registers: &mut Registers, target: Target, y: Address)
     ensures { registers.new ≡ ise target y registers.old }
 {
     let taken = match target {
-        Target::Index(b) => registers.index(b).bits() == y.bits(),
-        Target::A(Extension::Sign) => registers.a.bits() == y.extended().bits(),
-        Target::A(Extension::Zero) => Address::low(registers.a.bits()).bits() == y.bits(),
-        Target::Q(Extension::Sign) => registers.q.bits() == y.extended().bits(),
-        Target::Q(Extension::Zero) => Address::low(registers.q.bits()).bits() == y.bits(),
+        Target::Index(b) => registers.index(b) == y,
+        Target::A(Extension::Sign) => registers.a == y.extended(),
+        Target::A(Extension::Zero) => Address::low(registers.a.bits()) == y,
+        Target::Q(Extension::Sign) => registers.q == y.extended(),
+        Target::Q(Extension::Zero) => Address::low(registers.q.bits()) == y,
     };
     skip_if(registers, taken);
 }

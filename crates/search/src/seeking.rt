@@ -41,8 +41,10 @@ fn seek<S: Store>(
 ) -> Result<Option<Address>, Fault>
     ensures { result ≡ sought (suc registers.now.b1.bits) (reads_at (S.Store.meaning store.now) group.number) (hits search registers.now) m interval.words registers.now.b1.bits }
 {
-    let step = interval.words() as u64;
+    let step = u64::from(interval.words());
     let mut number = registers.b1.bits();
+    // Not a `for`: `(step..=b1).rev().step_by(step)` gives each number before its subtraction, so that the body would subtract again, and of
+    // `iter::successors`, which would give them after it, no proof knows that it ends.
     while number >= step {
         number -= step;
         let at = Address::low(number);
@@ -59,7 +61,7 @@ fn hits(search: Search, registers: &Registers, word: Word) -> bool
 {
     let masked = registers.q.and(word);
     match search {
-        Search::Equal => registers.a.bits() == masked.bits(),
+        Search::Equal => registers.a == masked,
         Search::Threshold => !registers.a.below(masked),
     }
 }

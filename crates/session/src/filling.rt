@@ -1,56 +1,39 @@
-ghost use Rattle.std.specs.Prelude.{◌≡◌};
-ghost use Rattle.session.specs.Built.{bytes_fit, built, filled_bytes, filled_words, raw, raw_bytes_fit, raw_filled_bytes, raw_filled_words, raw_words_fit, words_fit};
+ghost use Rattle.std.specs.Prelude.{◌≡◌, if◌then◌else◌};
+ghost use Rattle.session.specs.Built.{filled, may_fill, of_last, with_last};
+ghost use Rattle.session.specs.Contents.{allowed, fits, overlaid};
 
-use crate::contents::overlay_vec;
-use crate::memory::{Memory, Pile};
+use crate::memory::{Block, Pile};
 use crate::misplaced::Misplaced;
+use crate::unit::Unit;
 
-impl Memory {
-    fn put_words(&mut self, place: usize, words: &[u32]) -> Result<(), Misplaced>
-        ensures answer { result ≡ raw_words_fit (raw self.old) place words.now }
-        ensures after { raw self.new ≡ raw_filled_words (raw self.old) place words.now }
+impl<T: Copy> Block<T> {
+    // Puts contents in from a place on, or changes nothing where they do not fit.
+    pub(crate) fn put(&mut self, place: usize, contents: &[T]) -> Result<(), Misplaced>
+        ensures answer { result ≡ allowed (fits self.old place contents.now) }
+        ensures after { self.new ≡ (if fits self.old place contents.now then overlaid self.old place contents.now else self.old) }
     {
-        match self {
-            Memory::Words(memory) => overlay_vec(memory, place, words),
-            Memory::Bytes(_) => Err(Misplaced::NotPlain),
+        let units = self.units.as_mut_slice();
+        let size = contents.len();
+        if place > units.len() || size > units.len() - place {
+            return Err(Misplaced::Outside);
         }
-    }
-
-    fn put_bytes(&mut self, place: usize, bytes: &[u8]) -> Result<(), Misplaced>
-        ensures answer { result ≡ raw_bytes_fit (raw self.old) place bytes.now }
-        ensures after { raw self.new ≡ raw_filled_bytes (raw self.old) place bytes.now }
-    {
-        match self {
-            Memory::Words(_) => Err(Misplaced::NotPacked),
-            Memory::Bytes(memory) => overlay_vec(memory, place, bytes),
-        }
+        units[place..place + size].copy_from_slice(contents);
+        Ok(())
     }
 }
 
 impl Pile {
-    // Raw words into the core named last, which has to be plain.
-    pub fn put_words(&mut self, place: usize, words: &[u32]) -> Result<(), Misplaced>
-        ensures answer { result ≡ words_fit (built self.old) place words.now }
-        ensures after { built self.new ≡ filled_words (built self.old) place words.now }
+    // Raw contents into the core named last, which has to be of their unit. The last core has an arm for each shape,
+    // since the proof does not learn what a borrow out of joined patterns leaves behind.
+    pub fn put<U: Unit>(&mut self, place: usize, contents: &[U]) -> Result<(), Misplaced>
+        ensures answer { result ≡ of_last (λ m. may_fill (U.held m) place contents.now) self.old }
+        ensures after { self.new ≡ with_last (λ m. filled (U.held m) U.memory place contents.now m) self.old }
     {
         match self {
             Pile::Nothing | Pile::Image(_) => Err(Misplaced::NoCore),
-            Pile::One(last) => last.put_words(place, words),
-            Pile::Two(_, last) => last.put_words(place, words),
-            Pile::Pair(_, last) => last.put_words(place, words),
-        }
-    }
-
-    // Raw bytes into the core named last, which has to be packed.
-    pub fn put_bytes(&mut self, place: usize, bytes: &[u8]) -> Result<(), Misplaced>
-        ensures answer { result ≡ bytes_fit (built self.old) place bytes.now }
-        ensures after { built self.new ≡ filled_bytes (built self.old) place bytes.now }
-    {
-        match self {
-            Pile::Nothing | Pile::Image(_) => Err(Misplaced::NoCore),
-            Pile::One(last) => last.put_bytes(place, bytes),
-            Pile::Two(_, last) => last.put_bytes(place, bytes),
-            Pile::Pair(_, last) => last.put_bytes(place, bytes),
+            Pile::One(last) => U::fill(last, place, contents),
+            Pile::Two(_, last) => U::fill(last, place, contents),
+            Pile::Pair(_, last) => U::fill(last, place, contents),
         }
     }
 }

@@ -2,12 +2,16 @@
 #![tactic(auto)]
 
 pub mod building;
-mod contents;
 pub mod filling;
 pub mod making;
 pub mod memory;
 pub mod misplaced;
 pub mod reading;
+pub mod unit;
 
-pub use memory::{Memory, Pile};
+pub use memory::{Block, Memory, Pile};
 pub use misplaced::Misplaced;
+pub use unit::Unit;
+
+#[cfg(test)]
+mod tests;

@@ -1,6 +1,8 @@
 ghost use Rattle.std.specs.Prelude.{◌≡◌, Some};
+ghost use Rattle.session.specs.declared.misplaced.Misplaced.TheVariants.{Memory as NoMemory};
 ghost use Rattle.session.specs.Reasons.{reason};
 
+use std::alloc::AllocError;
 use std::fmt;
 
 // Why a command cannot be obeyed where it stands.
@@ -40,11 +42,19 @@ pub enum Misplaced {
     Memory,
 }
 
-impl Misplaced {
-    fn reason(self) -> &'static str
-        ensures { result.now ≡ reason self }
-    {
-        match self {
+impl From<AllocError> for Misplaced {
+    ghost from_gives = { λ _ e. e ≡ NoMemory };
+
+    fn from(_: AllocError) -> Self {
+        Self::Memory
+    }
+}
+
+impl fmt::Display for Misplaced {
+    ghost output = { λ x. Some (reason x) };
+
+    fn fmt<W: fmt::Write>(&self, f: &mut fmt::Formatter<W>) -> fmt::Result {
+        f.write_str(match self {
             Misplaced::NotYet => "not yet",
             Misplaced::NoCore => "no core is built",
             Misplaced::NotPlain => "the core named last is not plain",
@@ -61,14 +71,6 @@ impl Misplaced {
             Misplaced::Address => "address above 77777",
             Misplaced::Large => "core too large",
             Misplaced::Memory => "no memory",
-        }
-    }
-}
-
-impl fmt::Display for Misplaced {
-    ghost output = { λ x. Some (reason x) };
-
-    fn fmt<W: fmt::Write>(&self, f: &mut fmt::Formatter<W>) -> fmt::Result {
-        f.write_str(self.reason())
+        })
     }
 }

@@ -4,7 +4,6 @@ use crate::item::Item;
 use crate::problem::Problem;
 use crate::state::State;
 use crate::trial::{End, Setup};
-use pages::Setting;
 use std::alloc::{AllocError, Global};
 
 #[derive(Drop)]
@@ -48,7 +47,7 @@ impl Case {
             return Err(Problem::SecondAfter);
         }
         self.after = Some(After {
-            state: self.before.copy()?,
+            state: self.before.clone()?,
             end: None,
         });
         Ok(())
@@ -106,7 +105,7 @@ impl Case {
             "at" => self.before.place(m, n),
             "word" => self.before.write(m, n),
             "chain" => self.before.chain(m, n),
-            "absent" => self.setup.set_page(m, n, Setting::Absent),
+            "absent" => self.setup.set_page(m, n, None),
             _ => Err(Problem::Item),
         }
     }

@@ -1,5 +1,5 @@
 // What an instruction left otherwise than the table says.
-use crate::state::{State, WORDS};
+use crate::state::State;
 use crate::trial::End;
 use registers::Registers;
 use std::alloc::{AllocError, Global};
@@ -86,12 +86,9 @@ impl Differences {
         expected: &State,
         found: &State,
     ) -> Result<(), AllocError> {
-        if expected.core == found.core {
-            return Ok(());
-        }
-        for address in 0..WORDS {
-            let (expected, found) = (expected.word(address), found.word(address));
-            self.compare(Part::Word(address), u64::from(expected), u64::from(found))?;
+        let words = expected.core.iter().zip(found.core.iter());
+        for (address, (expected, found)) in words.enumerate() {
+            self.compare(Part::Word(address), u64::from(*expected), u64::from(*found))?;
         }
         Ok(())
     }

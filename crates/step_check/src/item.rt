@@ -1,5 +1,5 @@
 use crate::problem::Problem;
-use ones::{Address, Word};
+use ones::Ones;
 use std::alloc::Global;
 
 // An item of a line: its name, and the numbers behind it.
@@ -15,27 +15,20 @@ impl<'a> Item<'a> {
         let Some(name) = words.next() else {
             return Err(Problem::Item);
         };
-        let mut numbers = Vec::new(heap);
-        for word in words {
-            numbers.push(octal(word)?)?;
-        }
-        Ok(Item { name, numbers })
+        Ok(Item {
+            name,
+            numbers: words.map(octal).try_collect(heap)?,
+        })
     }
 }
 
 fn octal(text: &str) -> Result<u32, Problem> {
-    match u32::from_str_radix(text, 8) {
-        Ok(n) => Ok(n),
-        Err(_) => Err(Problem::Number),
-    }
+    u32::from_str_radix(text, 8).map_err(|_| Problem::Number)
 }
 
-pub(crate) fn word(n: u32) -> Result<Word, Problem> {
-    Word::new(u64::from(n)).ok_or(Problem::Large)
-}
-
-pub(crate) fn address(n: u32) -> Result<Address, Problem> {
-    Address::new(u64::from(n)).ok_or(Problem::Large)
+// A word or an address.
+pub(crate) fn number<const W: u32>(n: u32) -> Result<Ones<W>, Problem> {
+    Ones::new(u64::from(n)).ok_or(Problem::Large)
 }
 
 pub(crate) fn flag(n: u32) -> Result<bool, Problem> {

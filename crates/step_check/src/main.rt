@@ -19,8 +19,9 @@ fn main(rt: HostRuntime) -> io::Result<()> {
 
 fn run(rt: &HostRuntime) -> io::Result<()> {
     let mut table = Table::new(rt.alloc());
-    for line in BufReader::new(rt.alloc(), rt.stdin())?.lines(rt.alloc()) {
-        table.read_line(rt, line?.as_str())?;
+    let lines = BufReader::new(rt.alloc(), rt.stdin())?.lines(rt.alloc());
+    for (line, number) in lines.zip(1..) {
+        table.read_line(rt, number, line?.as_str())?;
     }
     table.close(rt)
 }

@@ -23,9 +23,9 @@ pub(crate) enum Problem {
     Memory,
 }
 
-impl Problem {
-    fn name(self) -> &'static str {
-        match self {
+impl fmt::Display for Problem {
+    fn fmt<W: fmt::Write>(&self, f: &mut fmt::Formatter<W>) -> fmt::Result {
+        f.write_str(match self {
             Problem::Item => "no such item here",
             Problem::Number => "not an octal number",
             Problem::Large => "number too large",
@@ -34,13 +34,7 @@ impl Problem {
             Problem::NoAfter => "neither p nor trap after",
             Problem::Page => "no such page setting",
             Problem::Memory => "no memory",
-        }
-    }
-}
-
-impl fmt::Display for Problem {
-    fn fmt<W: fmt::Write>(&self, f: &mut fmt::Formatter<W>) -> fmt::Result {
-        f.write_str(self.name())
+        })
     }
 }
 

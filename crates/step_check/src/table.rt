@@ -9,7 +9,6 @@ use std::io;
 pub(crate) struct Table {
     heap: Global,
     case: Option<Case>,
-    lines: u64,
     counts: Counts,
 }
 
@@ -25,7 +24,6 @@ impl Table {
         Table {
             heap,
             case: None,
-            lines: 0,
             counts: Counts {
                 cases: 0,
                 passed: 0,
@@ -35,15 +33,19 @@ impl Table {
     }
 
     // Takes the next line; one that begins a case has the case before it carried out.
-    pub(crate) fn read_line(&mut self, rt: &HostRuntime, line: &str) -> io::Result<()> {
-        self.lines = self.lines.saturating_add(1);
+    pub(crate) fn read_line(
+        &mut self,
+        rt: &HostRuntime,
+        number: u64,
+        line: &str,
+    ) -> io::Result<()> {
         let text = without_comment(line).trim();
         if text.is_empty() {
             return Ok(());
         }
         match text.strip_prefix("case ") {
             Some(name) => self.begin_case(rt, name),
-            None => self.continue_case(rt, text),
+            None => self.continue_case(rt, number, text),
         }
     }
 
@@ -53,7 +55,7 @@ impl Table {
         Ok(())
     }
 
-    fn continue_case(&mut self, rt: &HostRuntime, text: &str) -> io::Result<()> {
+    fn continue_case(&mut self, rt: &HostRuntime, number: u64, text: &str) -> io::Result<()> {
         let read = match &mut self.case {
             Some(case) => case.read_line(self.heap, text),
             None => Err(Problem::NoCase),
@@ -62,7 +64,7 @@ impl Table {
             Ok(()) => Ok(()),
             Err(problem) => {
                 self.counts.bad_lines = self.counts.bad_lines.saturating_add(1);
-                println!(rt; "line {}: {problem}", self.lines)
+                println!(rt; "line {number}: {problem}")
             }
         }
     }
@@ -93,7 +95,7 @@ fn print_counts(rt: &HostRuntime, counts: Counts) -> io::Result<()> {
     println!(rt; "{cases} cases, {passed} ok, {bad_lines} bad lines")
 }
 
-// Carries out a case and prints how it went; true where all is as the table says.
+// Carries out a case and prints how it went; true where all is as the table says, a bool since the caller only counts.
 fn passes(rt: &HostRuntime, heap: Global, case: &mut Case) -> io::Result<bool> {
     let judged = case.judge(heap);
     let name = case.name.as_str();

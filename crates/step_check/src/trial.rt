@@ -2,7 +2,7 @@
 use crate::item;
 use crate::problem::Problem;
 use crate::state::State;
-use pages::{Group, Relocation, Setting};
+use pages::{Group, Page, Relocation, Setting};
 use registers::{Keys, Trap};
 use std::alloc::{AllocError, Global};
 use store::Plain;
@@ -12,18 +12,18 @@ use store::Plain;
 pub(crate) struct Setup {
     group: Group,
     keys: Keys,
-    pages: Vec<Page>,
+    entries: Vec<Entry>,
 }
 
 // An entry that is set; a later one of the same group and entry takes its place.
 #[derive(Clone, Copy)]
-struct Page {
+struct Entry {
     group: u32,
     entry: u32,
     setting: Setting,
 }
 
-// How an instruction ends: by a trap, or with three zeros.
+// How an instruction ends: by a trap, or with three zeros, in the numbers of the table's columns.
 #[derive(Clone, Copy)]
 pub(crate) struct End {
     pub(crate) code: u32,
@@ -37,8 +37,10 @@ impl End {
         layer: 0,
         address: 0,
     };
+}
 
-    fn of(answer: Result<(), Trap>) -> End {
+impl From<Result<(), Trap>> for End {
+    fn from(answer: Result<(), Trap>) -> End {
         match answer {
             Ok(()) => End::DONE,
             Err(trap) => End {
@@ -53,40 +55,37 @@ impl End {
 impl Setup {
     // Group 0, with entry k for page k, and no key.
     pub(crate) fn new(heap: Global) -> Result<Setup, AllocError> {
-        let mut pages = Vec::new(heap);
-        for entry in 0..16 {
-            pages.push(Page {
-                group: 0,
-                entry,
-                setting: whole(entry),
-            })?;
-        }
+        let entries = (0..16).map(|entry| Entry {
+            group: 0,
+            entry,
+            setting: whole(entry),
+        });
         Ok(Setup {
             group: first_group(),
             keys: no_keys(),
-            pages,
+            entries: entries.collect(heap)?,
         })
     }
 
     pub(crate) fn choose_group(&mut self, n: u32) -> Result<(), Problem> {
-        self.group = Group::new(n).ok_or(Problem::Large)?;
+        self.group = Group::try_from(n).map_err(|_| Problem::Large)?;
         Ok(())
     }
 
     pub(crate) fn choose_keys(&mut self, n: u32) -> Result<(), Problem> {
-        self.keys = Keys::new(n).ok_or(Problem::Large)?;
+        self.keys = Keys::try_from(n).map_err(|_| Problem::Large)?;
         Ok(())
     }
 
     pub(crate) fn put_page(&mut self, name: &str, numbers: &[u32]) -> Result<(), Problem> {
         match *numbers {
             [group, entry, page, start, length, write] if name == "page" => {
-                let setting = Setting::Page {
+                let setting = Some(Page {
                     page,
                     start,
                     length,
                     write: item::flag(write)?,
-                };
+                });
                 self.set_page(group, entry, setting)
             }
             _ => Err(Problem::Item),
@@ -99,7 +98,7 @@ impl Setup {
         entry: u32,
         setting: Setting,
     ) -> Result<(), Problem> {
-        self.pages.push(Page {
+        self.entries.push(Entry {
             group,
             entry,
             setting,
@@ -110,33 +109,34 @@ impl Setup {
     // Changes the state as the instruction does.
     pub(crate) fn carry_out(&self, state: &mut State) -> Result<End, Problem> {
         let mut store = Relocation::new(Plain::new(state.core.as_mut_slice()));
-        for page in self.pages.iter() {
-            store.set(page.group, page.entry, page.setting)?;
+        for entry in self.entries.iter() {
+            store.set(entry.group, entry.entry, entry.setting)?;
         }
         let answer = step::step(&mut state.registers, &mut store, self.group, self.keys);
-        Ok(End::of(answer))
+        Ok(answer.into())
     }
 }
 
+// This and the next are not one generic function: that 0 is a group, and that 0 keys are keys, is known by the `TryFrom` of each.
 fn first_group() -> Group {
-    match Group::new(0) {
-        Some(group) => group,
-        None => unreachable(),
+    match Group::try_from(0) {
+        Ok(group) => group,
+        Err(_) => unreachable(),
     }
 }
 
 fn no_keys() -> Keys {
-    match Keys::new(0) {
-        Some(keys) => keys,
-        None => unreachable(),
+    match Keys::try_from(0) {
+        Ok(keys) => keys,
+        Err(_) => unreachable(),
     }
 }
 
 fn whole(page: u32) -> Setting {
-    Setting::Page {
+    Some(Page {
         page,
         start: 0,
         length: 4,
         write: true,
-    }
+    })
 }

@@ -9,13 +9,15 @@ use crate::plain::Plain;
 use crate::store::Store;
 use answers::Fault;
 
+// Two functions over one generic write, since a clause cannot say what a lent slice holds at the end where
+// the type of the core that borrows it is a parameter.
+
 // One write into the caller's words, by a plain core over them.
 pub fn write_word(words: &mut [u32], address: u32, value: u32) -> Result<(), Fault>
     ensures answer { result ≡ (plain words.old).takes address }
     ensures words { words.new ≡ settled result (rewritten words.old address value) words.old }
 {
-    let mut core = Plain::new(words);
-    write_through(&mut core, address, value)
+    write_through(&mut Plain::new(words), address, value)
 }
 
 // One write into the caller's bytes, by a packed core over them.
@@ -23,8 +25,7 @@ pub fn write_bytes(bytes: &mut [u8], address: u32, value: u32) -> Result<(), Fau
     ensures answer { result ≡ (packed bytes.old).takes address }
     ensures bytes { bytes.new ≡ settled result (spread bytes.old address value) bytes.old }
 {
-    let mut core = Packed::new(bytes);
-    write_through(&mut core, address, value)
+    write_through(&mut Packed::new(bytes), address, value)
 }
 
 // One write by a user that holds any store as its own.

@@ -11,4 +11,4 @@ pub mod store;
 pub use faithful::Faithful;
 pub use packed::Packed;
 pub use plain::Plain;
-pub use store::{Store, WORDS};
+pub use store::{Store, WORDS, within};

@@ -6,8 +6,8 @@ ghost use Rattle.store.specs.Bytes.{packed_writes};
 ghost use Rattle.store.specs.Packed.{packed, packed_sound, spread, word_at};
 
 use crate::faithful::Faithful;
-use crate::store::{Store, WORDS};
-use answers::{Cause, Fault, Layer};
+use crate::store::{Store, WORDS, within};
+use answers::{Fault, Layer};
 
 // The caller's bytes, three to a word, the highest first.
 #[derive(Drop)]
@@ -41,27 +41,21 @@ impl Store for Packed<'_> {
     fn read(&self, address: u32) -> Result<u32, Fault> {
         self.ask(address)?;
         let i = 3 * address as usize;
-        Ok(self.bytes[i] as u32 * 65536 + self.bytes[i + 1] as u32 * 256 + self.bytes[i + 2] as u32)
+        let (high, middle, low) = (self.bytes[i], self.bytes[i + 1], self.bytes[i + 2]);
+        Ok(u32::from_be_bytes([0, high, middle, low]))
     }
 
     fn ask(&self, address: u32) -> Result<(), Fault> {
-        if address < self.size() {
-            Ok(())
-        } else {
-            Err(Fault {
-                cause: Cause::Beyond,
-                layer: Self::LAYER,
-                address,
-            })
-        }
+        within(Self::LAYER, self.size(), address)
     }
 
     fn write(&mut self, address: u32, value: u32) -> Result<(), Fault> {
         (*self).ask(address)?;
         let i = 3 * address as usize;
-        self.bytes[i] = (value / 65536 % 256) as u8;
-        self.bytes[i + 1] = (value / 256 % 256) as u8;
-        self.bytes[i + 2] = (value % 256) as u8;
+        let [_, high, middle, low] = value.to_be_bytes();
+        self.bytes[i] = high;
+        self.bytes[i + 1] = middle;
+        self.bytes[i + 2] = low;
         Ok(())
     }
 }

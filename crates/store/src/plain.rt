@@ -6,8 +6,8 @@ ghost use Rattle.store.specs.Writing.{plain_writes};
 ghost use Rattle.store.specs.Plain.{plain, plain_sound, rewritten};
 
 use crate::faithful::Faithful;
-use crate::store::{Store, WORDS};
-use answers::{Cause, Fault, Layer};
+use crate::store::{Store, WORDS, within};
+use answers::{Fault, Layer};
 
 // The caller's 32-bit words: cell k is the low 24 bits of word k.
 #[derive(Drop)]
@@ -44,15 +44,7 @@ impl Store for Plain<'_> {
     }
 
     fn ask(&self, address: u32) -> Result<(), Fault> {
-        if address < self.size() {
-            Ok(())
-        } else {
-            Err(Fault {
-                cause: Cause::Beyond,
-                layer: Self::LAYER,
-                address,
-            })
-        }
+        within(Self::LAYER, self.size(), address)
     }
 
     fn write(&mut self, address: u32, value: u32) -> Result<(), Fault> {

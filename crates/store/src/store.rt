@@ -1,4 +1,5 @@
 ghost use Rattle.std.specs.Prelude.{◌≡◌, ℕ};
+ghost use Rattle.store.specs.Core.{below};
 ghost use Rattle.store.specs.Meaning.{Meaning, Sound, reads, after, settled};
 
 use answers::{Fault, Layer};
@@ -6,8 +7,22 @@ use answers::{Fault, Layer};
 // The most addresses that a store has.
 pub const WORDS: u32 = 262_144;
 
+// The answer of a layer of this size to whether it has the address. It takes no store: a store's own
+// `ask` calls it.
+pub fn within(layer: Layer, size: u32, address: u32) -> Result<(), Fault>
+    ensures { result ≡ below layer size address tt }
+{
+    if address < size {
+        Ok(())
+    } else {
+        Err(Fault::beyond(layer, address))
+    }
+}
+
 pub trait Store {
-    // The layer that the store's own faults name.
+    // The layer that the store's own faults name. A proof does not know its value in an impl with a type parameter, so a layer
+    // over any store names its number beside it once more; a ghost twin of it was tried, and does not close where the type has a
+    // lifetime.
     const LAYER: Layer;
 
     ghost meaning: { Self → Meaning };

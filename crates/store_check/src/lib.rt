@@ -8,14 +8,6 @@ mod tests {
     use store::lend::{write_bytes, write_word};
     use store::{Packed, Plain, Store};
 
-    const fn beyond(layer: Layer, address: u32) -> Fault {
-        Fault {
-            cause: Cause::Beyond,
-            layer,
-            address,
-        }
-    }
-
     #[test]
     fn packed_words(rt: HostRuntime) -> Result<(), Fail> {
         let mut bytes = [1u8, 2, 3, 0o377, 0, 1, 9, 9];
@@ -23,13 +15,13 @@ mod tests {
         assert_eq!(rt; core.size(), 2);
         assert_eq!(rt; core.read(0)?, 0o201003);
         assert_eq!(rt; core.read(1)?, 0o77600001);
-        assert_eq!(rt; core.read(2), Err(beyond(Layer::Packed, 2)));
+        assert_eq!(rt; core.read(2), Err(Fault::beyond(Layer::Packed, 2)));
         assert_eq!(rt;
             core.ask(4_294_967_295),
-            Err(beyond(Layer::Packed, 4_294_967_295))
+            Err(Fault::beyond(Layer::Packed, 4_294_967_295))
         );
         core.write(1, 0xff00_0405)?;
-        assert_eq!(rt; core.write(2, 7), Err(beyond(Layer::Packed, 2)));
+        assert_eq!(rt; core.write(2, 7), Err(Fault::beyond(Layer::Packed, 2)));
         assert_eq!(rt; core.read(1)?, 0x405);
         Ok(())
     }
@@ -41,12 +33,15 @@ mod tests {
         write_bytes(&mut bytes, 1, 0x0a0b0c)?;
         assert_eq!(rt;
             write_bytes(&mut bytes, 2, 0),
-            Err(beyond(Layer::Packed, 2))
+            Err(Fault::beyond(Layer::Packed, 2))
         );
         assert_eq!(rt; bytes, [1, 2, 3, 10, 11, 12, 7, 8]);
         let mut words = [0xffff_ffffu32, 0xff00_0001];
         write_word(&mut words, 1, 0x1200_0002)?;
-        assert_eq!(rt; write_word(&mut words, 2, 0), Err(beyond(Layer::Plain, 2)));
+        assert_eq!(rt;
+            write_word(&mut words, 2, 0),
+            Err(Fault::beyond(Layer::Plain, 2))
+        );
         assert_eq!(rt; words, [0xffff_ffff, 2]);
         Ok(())
     }
@@ -61,7 +56,7 @@ mod tests {
             core.ask(1)?;
             core.write(1, 0x0123_4567)?;
             assert_eq!(rt; core.read(1)?, 0x23_4567);
-            assert_eq!(rt; core.read(2), Err(beyond(Layer::Plain, 2)));
+            assert_eq!(rt; core.read(2), Err(Fault::beyond(Layer::Plain, 2)));
         }
         assert_eq!(rt; words, [0xff00_0005, 0x23_4567]);
         Ok(())
@@ -72,12 +67,12 @@ mod tests {
         let mut words = [0u32; 0];
         assert_eq!(rt;
             Plain::new(&mut words).read(0),
-            Err(beyond(Layer::Plain, 0))
+            Err(Fault::beyond(Layer::Plain, 0))
         );
         let mut bytes = [9u8, 9];
         let mut core = Packed::new(&mut bytes);
         assert_eq!(rt; core.size(), 0);
-        assert_eq!(rt; core.write(0, 0), Err(beyond(Layer::Packed, 0)));
+        assert_eq!(rt; core.write(0, 0), Err(Fault::beyond(Layer::Packed, 0)));
     }
 
     // A core of more than 262,144 words has 262,144.
@@ -87,11 +82,17 @@ mod tests {
         let mut core = Plain::new(words.as_mut_slice());
         assert_eq!(rt; core.size(), 262_144);
         assert_eq!(rt; core.read(262_143)?, 3);
-        assert_eq!(rt; core.write(262_144, 0), Err(beyond(Layer::Plain, 262_144)));
+        assert_eq!(rt;
+            core.write(262_144, 0),
+            Err(Fault::beyond(Layer::Plain, 262_144))
+        );
         let mut bytes = vec![in rt.alloc(); 1u8; 786_437]?;
         let core = Packed::new(bytes.as_mut_slice());
         assert_eq!(rt; core.size(), 262_144);
-        assert_eq!(rt; core.read(262_144), Err(beyond(Layer::Packed, 262_144)));
+        assert_eq!(rt;
+            core.read(262_144),
+            Err(Fault::beyond(Layer::Packed, 262_144))
+        );
         Ok(())
     }
 
@@ -115,6 +116,6 @@ mod tests {
             ],
             [3, 4, 5]
         );
-        assert_eq!(rt; Refusal::Core(beyond(Layer::Plain, 0)).number(), 8);
+        assert_eq!(rt; Refusal::Core(Fault::beyond(Layer::Plain, 0)).number(), 8);
     }
 }

@@ -1,18 +1,18 @@
 -- What a turn leaves, from where its loop ends.
-use Rattle.std.proofs.Common.{◌≡◌, ℕ, ◌+◌, ◌-◌, ◌<◌, ◌≤◌, Bool, true, false, List, [], ◌++◌, Some, None, Ok, Err, Option, Result, sym, refl, ap, ◌∙◌, subst, add-zero, arith}
+use Rattle.std.proofs.Common.{◌≡◌, ℕ, ◌+◌, ◌-◌, ◌<◌, ◌≤◌, List, [], ◌++◌, Some, None, Ok, Err, Option, Result, sym, refl, ap, ◌∙◌, subst, add-zero, arith}
 use Rattle.registers.specs.declared.keys.Keys.{Keys}
 use Rattle.registers.specs.declared.record.Record.{Record}
 use Rattle.registers.specs.declared.record.State.{State}
 use Rattle.registers.specs.declared.record.State.TheVariants.{Running}
 use Rattle.registers.specs.declared.trap.Trap.{Trap}
-use Rattle.rules.specs.Sight.{Done, sight, left, writes as rule_writes}
+use Rattle.rules.specs.Sight.{Done, sight, left, outcome, writes as rule_writes}
 use Rattle.rules.specs.Table.{step}
 use Rattle.store.specs.Meaning.{Meaning}
 use Rattle.turn.proofs.Joining.{run_joins}
 use Rattle.turn.proofs.Lasting.{run_lasts}
 use Rattle.turn.proofs.Runs.{after_join, with_join, preceded_twice, preceded_none, run_none, run_more, run_stop}
 use Rattle.turn.specs.Runs.{Run, run, preceded, ended}
-use Rattle.turn.specs.Turns.{Advanced, Ran, Turning, turns, carried, state_after, state_trap, stepped_state}
+use Rattle.turn.specs.Turns.{Advanced, Ran, Turning, turns, state_after, stepped_state}
 use Rattle.turn.specs.declared.turned.Turned.{Turned}
 use Rattle.view.specs.Writes.{Write, after_writes, with_writes}
 
@@ -37,7 +37,7 @@ module _ {S : Type 0} (meaning : S → Meaning) (wrote : S → ℕ → ℕ → S
   }
 
   -- one instruction more
-  went_on : (c : ℕ) (y y' : Record) (u u' : S) (o : Result Done Trap) → Sofar c y u → c < n → step keys (sight (meaning u) g) y.registers ≡ o → carried o ≡ true
+  went_on : (c : ℕ) (y y' : Record) (u u' : S) (o : Result Done Trap) → Sofar c y u → c < n → step keys (sight (meaning u) g) y.registers ≡ o → outcome o ≡ Ok tt
       → y'.registers ≡ left y.registers o → y'.state ≡ stepped_state o → meaning u' ≡ after_writes g (rule_writes o) (meaning u) → u' ≡ with_writes meaning wrote g (rule_writes o) u → Sofar (c + 1) y' u'
   went_on c y y' u u' (Ok d) h l e b r t f w = record {
     writes = h.writes ++ d.writes;
@@ -54,7 +54,7 @@ module _ {S : Type 0} (meaning : S → Meaning) (wrote : S → ℕ → ℕ → S
   }
   went_on c y y' u u' (Err t) h l e b r v f w = let z : ◌≡◌ {A = ℕ} 0 1 = cc in absurd (omega arith)
 
-  pub more : (c : ℕ) (y y' : Record) (u u' : S) (b : Bool) → Sofar c y u → c < n → Advanced meaning wrote keys g y y' u u' b → b ≡ true → Sofar (c + 1) y' u'
+  pub more : (c : ℕ) (y y' : Record) (u u' : S) (b : Result (Unit {0}) Trap) → Sofar c y u → c < n → Advanced meaning wrote keys g y y' u u' b → b ≡ Ok tt → Sofar (c + 1) y' u'
   more c y y' u u' b h l a e =
       went_on c y y' u u' (step keys (sight (meaning u) g) y.registers) h l refl (sym a.answer ∙ e) a.registers a.state a.effect a.whole
 
@@ -72,25 +72,25 @@ module _ {S : Type 0} (meaning : S → Meaning) (wrote : S → ℕ → ℕ → S
     joins = λ j k. run_joins keys g j k x.registers (meaning s);
   }
 
-  pub at_length : (c : ℕ) (y : Record) (u : S) → Sofar c y u → n ≤ c → Ran meaning wrote keys g n x y s u (record { count = c; trap = None })
+  pub at_length : (c : ℕ) (y : Record) (u : S) → Sofar c y u → n ≤ c → Ran meaning wrote keys g n x y s u (record { count = n; trap = None })
   at_length c y u h l =
       let k : n - c ≡ 0 = omega arith in
       settled (preceded c h.writes (ended y.registers None)) (h.rest ∙ ap (preceded c h.writes) (run_none keys g y.registers (meaning u) (n - c) k))
-      y u (record { count = c; trap = None }) (sym (add-zero c)) refl refl h.state
+      y u (record { count = n; trap = None }) (let q : c ≤ n = h.within in omega arith) refl refl h.state
       (h.effect ∙ sym (after_join g h.writes [] (meaning s))) (h.whole ∙ sym (with_join meaning wrote g h.writes [] s))
 
-  stopped_at : (c : ℕ) (y y' : Record) (u u' : S) (o : Result Done Trap) → Sofar c y u → c < n → step keys (sight (meaning u) g) y.registers ≡ o → carried o ≡ false
-      → y'.registers ≡ left y.registers o → y'.state ≡ stepped_state o → meaning u' ≡ after_writes g (rule_writes o) (meaning u) → u' ≡ with_writes meaning wrote g (rule_writes o) u → Ran meaning wrote keys g n x y' s u' (record { count = c; trap = state_trap y'.state })
-  stopped_at c y y' u u' (Ok d) h l e b r v f w = let z : ◌≡◌ {A = ℕ} 0 1 = cc in absurd (omega arith)
-  stopped_at c y y' u u' (Err t) h l e b r v f w =
+  stopped_at : (c : ℕ) (y y' : Record) (u u' : S) (e : Trap) (o : Result Done Trap) → Sofar c y u → c < n → step keys (sight (meaning u) g) y.registers ≡ o → outcome o ≡ Err e
+      → y'.registers ≡ left y.registers o → y'.state ≡ stepped_state o → meaning u' ≡ after_writes g (rule_writes o) (meaning u) → u' ≡ with_writes meaning wrote g (rule_writes o) u → Ran meaning wrote keys g n x y' s u' (record { count = c; trap = Some e })
+  stopped_at c y y' u u' e (Ok d) h l k b r v f w = let z : ◌≡◌ {A = ℕ} 0 1 = cc in absurd (omega arith)
+  stopped_at c y y' u u' e (Err t) h l k b r v f w =
       let p : 0 < n - c = omega arith in
-      settled (preceded c h.writes (ended y.registers (Some t))) (h.rest ∙ ap (preceded c h.writes) (run_stop keys g y.registers (meaning u) (n - c) t p e))
-      y' u' (record { count = c; trap = state_trap y'.state }) (sym (add-zero c)) (ap state_trap v) r v
+      settled (preceded c h.writes (ended y.registers (Some t))) (h.rest ∙ ap (preceded c h.writes) (run_stop keys g y.registers (meaning u) (n - c) t p k))
+      y' u' (record { count = c; trap = Some e }) (sym (add-zero c)) (let q : ◌≡◌ {A = Result (Unit {0}) Trap} (Err t) (Err e) = b in cc) r v
       (f ∙ h.effect ∙ sym (after_join g h.writes [] (meaning s))) (w ∙ h.whole ∙ sym (with_join meaning wrote g h.writes [] s))
 
-  pub stopped : (c : ℕ) (y y' : Record) (u u' : S) (b : Bool) → Sofar c y u → c < n → Advanced meaning wrote keys g y y' u u' b → b ≡ false → Ran meaning wrote keys g n x y' s u' (record { count = c; trap = state_trap y'.state })
-  stopped c y y' u u' b h l a e =
-      stopped_at c y y' u u' (step keys (sight (meaning u) g) y.registers) h l refl (sym a.answer ∙ e) a.registers a.state a.effect a.whole
+  pub stopped : (c : ℕ) (y y' : Record) (u u' : S) (b : Result (Unit {0}) Trap) (e : Trap) → Sofar c y u → c < n → Advanced meaning wrote keys g y y' u u' b → b ≡ Err e → Ran meaning wrote keys g n x y' s u' (record { count = c; trap = Some e })
+  stopped c y y' u u' b e h l a i =
+      stopped_at c y y' u u' e (step keys (sight (meaning u) g) y.registers) h l refl (sym a.answer ∙ i) a.registers a.state a.effect a.whole
 
   pub at_state : (t : State) (y : Record) (u : S) (o : Option Turned) → x.state ≡ t → turns meaning wrote keys g n t x y s u o → Turning meaning wrote keys g n x y s u o
   at_state t y u o e h = subst (λ (v : State). turns meaning wrote keys g n v x y s u o) (sym e) h

@@ -1,11 +1,11 @@
 -- What a turn leaves.
-use Rattle.std.specs.Prelude.{◌≡◌, ℕ, Bool, true, false, Some, None, Ok, Err, Option, Result}
+use Rattle.std.specs.Prelude.{◌≡◌, ℕ, Some, None, Ok, Err, Option, Result}
 use Rattle.registers.specs.declared.keys.Keys.{Keys}
 use Rattle.registers.specs.declared.record.Record.{Record}
 use Rattle.registers.specs.declared.record.State.{State}
 use Rattle.registers.specs.declared.record.State.TheVariants.{Running, Stopped}
 use Rattle.registers.specs.declared.trap.Trap.{Trap}
-use Rattle.rules.specs.Sight.{Done, sight, left, writes}
+use Rattle.rules.specs.Sight.{Done, sight, left, outcome, writes}
 use Rattle.rules.specs.Table.{step}
 use Rattle.store.specs.Meaning.{Meaning}
 use Rattle.turn.specs.Runs.{Joins, Lasts, Run, run}
@@ -17,23 +17,14 @@ abbrev pub state_after : Option Trap → State
 state_after None = Running
 state_after (Some t) = Stopped t
 
--- the trap of a group that is stopped
-abbrev pub state_trap : State → Option Trap
-state_trap Running = None
-state_trap (Stopped t) = Some t
-
 -- the state after one instruction of a group that runs
 abbrev pub stepped_state : Result Done Trap → State
 stepped_state (Ok d) = Running
 stepped_state (Err t) = Stopped t
 
-abbrev pub carried : Result Done Trap → Bool
-carried (Ok d) = true
-carried (Err t) = false
-
 -- one instruction of a group that runs
-pub record Advanced {S : Type 0} (meaning : S → Meaning) (wrote : S → ℕ → ℕ → S) (keys : Keys) (g : ℕ) (x x' : Record) (s s' : S) (b : Bool) : Type 0 where
-  pub answer : b ≡ carried (step keys (sight (meaning s) g) x.registers)
+pub record Advanced {S : Type 0} (meaning : S → Meaning) (wrote : S → ℕ → ℕ → S) (keys : Keys) (g : ℕ) (x x' : Record) (s s' : S) (o : Result (Unit {0}) Trap) : Type 0 where
+  pub answer : o ≡ outcome (step keys (sight (meaning s) g) x.registers)
   pub registers : x'.registers ≡ left x.registers (step keys (sight (meaning s) g) x.registers)
   pub state : x'.state ≡ stepped_state (step keys (sight (meaning s) g) x.registers)
   pub effect : meaning s' ≡ after_writes g (writes (step keys (sight (meaning s) g) x.registers)) (meaning s)

@@ -1,6 +1,6 @@
 ghost use Rattle.std.specs.Prelude.{◌≡◌};
 ghost use Rattle.registers.specs.declared.record.State.TheVariants.{Running};
-ghost use Rattle.turn.specs.Turns.{Advanced, Ran, Turning, state_trap};
+ghost use Rattle.turn.specs.Turns.{Advanced, Ran, Turning};
 
 use crate::turned::Turned;
 use pages::Group;
@@ -33,38 +33,37 @@ fn run<S: Store>(
     requires { «record».old.state ≡ Running }
     ensures { Ran S.Store.meaning S.Store.wrote keys group.number length «record».old «record».new store.old store.new result }
 {
-    let mut count = 0;
-    while count < length {
-        if !advance(record, store, group, keys) {
-            let trap = trap_of(record.state);
-            return Turned { count, trap };
+    for count in 0..length {
+        if let Err(trap) = advance(record, store, group, keys) {
+            return Turned {
+                count,
+                trap: Some(trap),
+            };
         }
-        count += 1;
     }
-    Turned { count, trap: None }
-}
-
-fn trap_of(state: State) -> Option<Trap>
-    ensures { result ≡ state_trap state }
-{
-    match state {
-        State::Running => None,
-        State::Stopped(trap) => Some(trap),
+    Turned {
+        count: length,
+        trap: None,
     }
 }
 
-// One instruction; false where it trapped, and the group is stopped with its trap.
-fn advance<S: Store>(record: &mut Record, store: &mut S, group: Group, keys: Keys) -> bool
+// One instruction; one that traps stops the group.
+fn advance<S: Store>(
+    record: &mut Record,
+    store: &mut S,
+    group: Group,
+    keys: Keys,
+) -> Result<(), Trap>
     requires { «record».old.state ≡ Running }
     ensures { Advanced S.Store.meaning S.Store.wrote keys group.number «record».old «record».new store.old store.new result }
 {
     let outcome = step::step(&mut record.registers, store, group, keys);
     match (&mut record.state, outcome) {
-        (State::Stopped(_), _) => false,
-        (_, Ok(())) => true,
+        (State::Stopped(_), _) => unreachable!(),
+        (_, Ok(())) => Ok(()),
         (state, Err(trap)) => {
             *state = State::Stopped(trap);
-            false
+            Err(trap)
         }
     }
 }

@@ -11,11 +11,13 @@ use ones::{Address, Word};
 use pages::{Group, original};
 use store::Store;
 
+// Store and group stay two parameters. A struct of both was tried: it proves where the store is a type parameter, but the prover does not cover
+// it over a store that holds both a `&mut` and page descriptors, and a reader that has only a `&` could not make one.
 pub fn read<S: Store>(store: &S, group: Group, address: Address) -> Result<Word, Fault>
     ensures { result ≡ reads_at (S.Store.meaning store.now) group.number address }
 {
     let number = store.read(original(group, address))?;
-    Ok(Word::low(number as u64))
+    Ok(Word::low(u64::from(number)))
 }
 
 // Would a group's write be taken?

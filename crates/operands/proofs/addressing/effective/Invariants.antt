@@ -1,13 +1,10 @@
-use Rattle.std.proofs.Common.{◌≡◌}
+use Rattle.std.proofs.Common.{◌≡◌, ◌-◌}
 use Rattle.rules.specs.Parts.{effective}
 use Rattle.view.specs.Seen.{reads_at}
 use Rattle.operands.proofs.addressing.effective.Given as goal
 
 -- the rest of the way leads where the whole does
-abbrev pub invariant-loop-place : goal.invariant-loop-place
-invariant-loop-place g l =
-    effective l.left (reads_at (g.S.Store.meaning l.store) l.group.number) l.registers l.place
+abbrev pub invariant-loop-read : goal.invariant-loop-read
+invariant-loop-read g l =
+    effective (64 - l._read) (reads_at (g.S.Store.meaning l.store) l.group.number) l.registers l.place
     ≡ effective 64 (reads_at (g.S.Store.meaning l.store) l.group.number) l.registers l.initial.place
-
-abbrev pub decreases-loop-place : goal.decreases-loop-place
-decreases-loop-place g l = l.left

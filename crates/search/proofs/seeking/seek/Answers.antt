@@ -8,17 +8,17 @@ loop-number-init g c = let e = c.bits-number.ensures.answer in (suc c.args.regis
 
 pub loop-number-preserved : goal.loop-number-preserved
 loop-number-preserved g c =
-    let p : 0 < c.words-step.result = omega arith in
+    let p : 0 < c.from-step.result = omega arith in
     let k = tried _ _ _ _ _ _ c.loop-number.invariant.1 c.loop-number.invariant.2 c.loop-number-test.true p in
     let e = k.2 in
     (k.0, k.1, search rules)
 
 pub loop-number-smaller : goal.loop-number-smaller
-loop-number-smaller g c = let p : 0 < c.words-step.result = omega arith in omega arith
+loop-number-smaller g c = let p : 0 < c.from-step.result = omega arith in omega arith
 
 pub returns-in_err-word : goal.returns-in_err-word
 returns-in_err-word g c =
-    let p : 0 < c.words-step.result = omega arith in
+    let p : 0 < c.from-step.result = omega arith in
     let k = tried _ _ _ _ _ _ c.loop-number.invariant.1 c.loop-number.invariant.2 c.loop-number-test.true p in
     let e = k.2 in
     let f = err_from_is_err_and c.from_residual.result c.from_residual.ensures.1 in
@@ -26,7 +26,7 @@ returns-in_err-word g c =
 
 pub returns-then-hits : goal.returns-then-hits
 returns-then-hits g c =
-    let p : 0 < c.words-step.result = omega arith in
+    let p : 0 < c.from-step.result = omega arith in
     let k = tried _ _ _ _ _ _ c.loop-number.invariant.1 c.loop-number.invariant.2 c.loop-number-test.true p in
     let e = k.2 in
     search rules

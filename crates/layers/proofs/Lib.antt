@@ -1,3 +1,0 @@
-mod Pairs
-mod Covered
-mod Protections

@@ -1,5 +1,0 @@
-use Rattle.pages.proofs.Kept.{kept_ok}
-use Rattle.pages.proofs.setting.Setting.descriptor.Goals as goal
-
-pub returns-then-start-length-le4 : goal.returns-then-start-length-le4
-returns-then-start-length-le4 c = rw c.in-Page.is (kept_ok _ _ _)
