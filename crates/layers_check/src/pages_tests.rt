@@ -59,7 +59,7 @@ fn quarters_and_their_ends(rt: HostRuntime) -> Result<(), Fail> {
         );
         assert_eq!(rt;
             view::read(&store, group(g), Address::low(address))?,
-            Word::low(core as u64)
+            Word::low(u64::from(core))
         );
     }
     Ok(())

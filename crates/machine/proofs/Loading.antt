@@ -1,20 +1,11 @@
 -- A load whose values have the bits of their registers.
-use Rattle.std.proofs.Common.{◌≡◌, ℕ, ◌^◌, ◌<◌, false, Some, None, Ok, Option, Result, refl, arith, lit<, lit≤}
-use Rattle.std.specs.Option.{MatchOption, ok_or}
-use Rattle.std.specs.Result.{MatchResult}
-use Rattle.answers.specs.declared.refusal.Refusal.{Refusal}
-use Rattle.answers.specs.declared.refusal.Refusal.TheVariants.{Value}
+use Rattle.std.proofs.Common.{◌≡◌, ℕ, ◌^◌, false, Ok, refl, arith, lit<, lit≤}
 use Rattle.machine.specs.Loads.{unless_wide}
 use Rattle.machine.specs.declared.load.Load.{Load}
 use Rattle.ones.proofs.Same.{is_low}
 use Rattle.ones.specs.Numbers.{address, word}
 use Rattle.ones.specs.declared.number.Ones.{Ones}
 use Rattle.std.proofs.lemmas.Bool.{lt-ltb}
-
--- a value that could not be made is refused
-pub or_refused : {X : Type 0} (o : Option X) (P : Type 0) (Q : X → Type 0) → MatchOption o P Q → MatchResult (ok_or o Value) Q (λ e. (e ≡ Value) × P)
-or_refused None P Q h = (refl, h)
-or_refused (Some a) P Q h = h
 
 is_word : (a : Ones 24) (n : ℕ) → a.bits ≡ n → a ≡ word n
 is_word a n e = let f = a.fits in is_low a (lit< tt) (lit≤ tt) n (omega arith)

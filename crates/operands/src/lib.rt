@@ -1,4 +1,5 @@
-// Instructions with a memory operand, over a group's view of any store.
+// Instructions with a memory operand, over a group's view of any store. Registers, store and group stay three parameters, as store and group do
+// in the view.
 #![tactic(auto)]
 
 mod addressing;

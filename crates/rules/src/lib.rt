@@ -1,4 +1,5 @@
-// What instructions do with registers, apart from memory. The table of all rules is in specs/Table.
+// What instructions do with registers, apart from memory. The table of all rules is in specs/Table. These are functions of the registers and
+// no methods, since the crate of the registers knows no instructions.
 #![tactic(auto)]
 
 pub mod acting;

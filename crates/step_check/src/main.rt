@@ -18,10 +18,10 @@ fn main(rt: HostRuntime) -> io::Result<()> {
 }
 
 fn run(rt: &HostRuntime) -> io::Result<()> {
-    let mut table = Table::new(rt.alloc());
+    let mut table = Table::new(rt);
     let lines = BufReader::new(rt.alloc(), rt.stdin())?.lines(rt.alloc());
     for (line, number) in lines.zip(1..) {
-        table.read_line(rt, number, line?.as_str())?;
+        table.read_line(number, line?.as_str())?;
     }
-    table.close(rt)
+    table.close()
 }

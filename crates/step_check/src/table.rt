@@ -2,12 +2,11 @@
 use crate::case::Case;
 use crate::difference::Differences;
 use crate::problem::Problem;
-use std::alloc::Global;
 use std::io;
 
 #[derive(Drop)]
-pub(crate) struct Table {
-    heap: Global,
+pub(crate) struct Table<'a> {
+    rt: &'a HostRuntime,
     case: Option<Case>,
     counts: Counts,
 }
@@ -19,10 +18,10 @@ struct Counts {
     bad_lines: u64,
 }
 
-impl Table {
-    pub(crate) fn new(heap: Global) -> Table {
+impl<'a> Table<'a> {
+    pub(crate) fn new(rt: &'a HostRuntime) -> Table<'a> {
         Table {
-            heap,
+            rt,
             case: None,
             counts: Counts {
                 cases: 0,
@@ -33,89 +32,83 @@ impl Table {
     }
 
     // Takes the next line; one that begins a case has the case before it carried out.
-    pub(crate) fn read_line(
-        &mut self,
-        rt: &HostRuntime,
-        number: u64,
-        line: &str,
-    ) -> io::Result<()> {
+    pub(crate) fn read_line(&mut self, number: u64, line: &str) -> io::Result<()> {
         let text = without_comment(line).trim();
         if text.is_empty() {
             return Ok(());
         }
         match text.strip_prefix("case ") {
-            Some(name) => self.begin_case(rt, name),
-            None => self.continue_case(rt, number, text),
+            Some(name) => self.begin_case(name),
+            None => self.continue_case(number, text),
         }
     }
 
-    fn begin_case(&mut self, rt: &HostRuntime, name: &str) -> io::Result<()> {
-        self.finish_case(rt)?;
-        self.case = Some(Case::new(self.heap, name)?);
+    fn begin_case(&mut self, name: &str) -> io::Result<()> {
+        self.finish_case()?;
+        self.case = Some(Case::new(self.rt.alloc(), name)?);
         Ok(())
     }
 
-    fn continue_case(&mut self, rt: &HostRuntime, number: u64, text: &str) -> io::Result<()> {
+    fn continue_case(&mut self, number: u64, text: &str) -> io::Result<()> {
         let read = match &mut self.case {
-            Some(case) => case.read_line(self.heap, text),
+            Some(case) => case.read_line(self.rt.alloc(), text),
             None => Err(Problem::NoCase),
         };
         match read {
             Ok(()) => Ok(()),
             Err(problem) => {
                 self.counts.bad_lines = self.counts.bad_lines.saturating_add(1);
-                println!(rt; "line {number}: {problem}")
+                println!(self.rt; "line {number}: {problem}")
             }
         }
     }
 
-    fn finish_case(&mut self, rt: &HostRuntime) -> io::Result<()> {
+    fn finish_case(&mut self) -> io::Result<()> {
         if let Some(mut case) = self.case.take() {
             self.counts.cases = self.counts.cases.saturating_add(1);
-            if passes(rt, self.heap, &mut case)? {
+            if self.passes(&mut case)? {
                 self.counts.passed = self.counts.passed.saturating_add(1);
             }
         }
         Ok(())
     }
 
-    // Carries out the last case, and prints the counts.
-    pub(crate) fn close(mut self, rt: &HostRuntime) -> io::Result<()> {
-        self.finish_case(rt)?;
-        print_counts(rt, self.counts)
-    }
-}
-
-fn print_counts(rt: &HostRuntime, counts: Counts) -> io::Result<()> {
-    let Counts {
-        cases,
-        passed,
-        bad_lines,
-    } = counts;
-    println!(rt; "{cases} cases, {passed} ok, {bad_lines} bad lines")
-}
-
-// Carries out a case and prints how it went; true where all is as the table says, a bool since the caller only counts.
-fn passes(rt: &HostRuntime, heap: Global, case: &mut Case) -> io::Result<bool> {
-    let judged = case.judge(heap);
-    let name = case.name.as_str();
-    match judged {
-        Ok(differences) => print_differences(rt, name, &differences),
-        Err(problem) => {
-            println!(rt; "{name}: {problem}")?;
-            Ok(false)
+    // Carries out a case and prints how it went; true where all is as the table says, a bool since the caller only counts.
+    fn passes(&self, case: &mut Case) -> io::Result<bool> {
+        let judged = case.judge(self.rt.alloc());
+        let name = case.name.as_str();
+        match judged {
+            Ok(differences) => {
+                self.print_differences(name, &differences)?;
+                Ok(differences.all.is_empty())
+            }
+            Err(problem) => {
+                println!(self.rt; "{name}: {problem}")?;
+                Ok(false)
+            }
         }
     }
-}
 
-fn print_differences(rt: &HostRuntime, name: &str, differences: &Differences) -> io::Result<bool> {
-    for difference in differences.all.iter() {
-        println!(rt; "{name}: {difference}")?;
+    fn print_differences(&self, name: &str, differences: &Differences) -> io::Result<()> {
+        for difference in differences.all.iter() {
+            println!(self.rt; "{name}: {difference}")?;
+        }
+        if differences.all.is_empty() {
+            println!(self.rt; "{name}: ok")?;
+        }
+        Ok(())
     }
-    if differences.all.is_empty() {
-        println!(rt; "{name}: ok")?;
+
+    // Carries out the last case, and prints the counts.
+    pub(crate) fn close(mut self) -> io::Result<()> {
+        self.finish_case()?;
+        let Counts {
+            cases,
+            passed,
+            bad_lines,
+        } = self.counts;
+        println!(self.rt; "{cases} cases, {passed} ok, {bad_lines} bad lines")
     }
-    Ok(differences.all.is_empty())
 }
 
 fn without_comment(line: &str) -> &str {

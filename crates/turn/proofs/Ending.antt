@@ -1,8 +1,7 @@
 -- What a turn leaves, from where its loop ends.
-use Rattle.std.proofs.Common.{◌≡◌, ℕ, ◌+◌, ◌-◌, ◌<◌, ◌≤◌, List, [], ◌++◌, Some, None, Ok, Err, Option, Result, sym, refl, ap, ◌∙◌, subst, add-zero, arith}
+use Rattle.std.proofs.Common.{◌≡◌, ℕ, ◌+◌, ◌-◌, ◌<◌, ◌≤◌, List, [], ◌++◌, Some, None, Ok, Err, Result, sym, refl, ap, ◌∙◌, add-zero, arith}
 use Rattle.registers.specs.declared.keys.Keys.{Keys}
 use Rattle.registers.specs.declared.record.Record.{Record}
-use Rattle.registers.specs.declared.record.State.{State}
 use Rattle.registers.specs.declared.record.State.TheVariants.{Running}
 use Rattle.registers.specs.declared.trap.Trap.{Trap}
 use Rattle.rules.specs.Sight.{Done, sight, left, outcome, writes as rule_writes}
@@ -10,9 +9,9 @@ use Rattle.rules.specs.Table.{step}
 use Rattle.store.specs.Meaning.{Meaning}
 use Rattle.turn.proofs.Joining.{run_joins}
 use Rattle.turn.proofs.Lasting.{run_lasts}
-use Rattle.turn.proofs.Runs.{after_join, with_join, preceded_twice, preceded_none, run_none, run_more, run_stop}
+use Rattle.turn.proofs.Runs.{after_join, with_join, preceded_twice, run_none, run_more, run_stop}
 use Rattle.turn.specs.Runs.{Run, run, preceded, ended}
-use Rattle.turn.specs.Turns.{Advanced, Ran, Turning, turns, state_after, stepped_state}
+use Rattle.turn.specs.Turns.{Advanced, Ran, state_after, stepped_state}
 use Rattle.turn.specs.declared.turned.Turned.{Turned}
 use Rattle.view.specs.Writes.{Write, after_writes, with_writes}
 
@@ -25,16 +24,6 @@ module _ {S : Type 0} (meaning : S → Meaning) (wrote : S → ℕ → ℕ → S
     pub effect : meaning u ≡ after_writes g writes (meaning s)
     pub whole : u ≡ with_writes meaning wrote g writes s
     pub rest : run n keys g x.registers (meaning s) ≡ preceded c writes (run (n - c) keys g y.registers (meaning u))
-
-  pub begun : x.state ≡ Running → Sofar 0 x s
-  begun h = record {
-    writes = [];
-    within = omega arith;
-    state = h;
-    effect = refl;
-    whole = refl;
-    rest = let e : n - 0 ≡ n = omega arith in rw e (sym (preceded_none (run n keys g x.registers (meaning s))));
-  }
 
   -- one instruction more
   went_on : (c : ℕ) (y y' : Record) (u u' : S) (o : Result Done Trap) → Sofar c y u → c < n → step keys (sight (meaning u) g) y.registers ≡ o → outcome o ≡ Ok tt
@@ -91,6 +80,3 @@ module _ {S : Type 0} (meaning : S → Meaning) (wrote : S → ℕ → ℕ → S
   pub stopped : (c : ℕ) (y y' : Record) (u u' : S) (b : Result (Unit {0}) Trap) (e : Trap) → Sofar c y u → c < n → Advanced meaning wrote keys g y y' u u' b → b ≡ Err e → Ran meaning wrote keys g n x y' s u' (record { count = c; trap = Some e })
   stopped c y y' u u' b e h l a i =
       stopped_at c y y' u u' e (step keys (sight (meaning u) g) y.registers) h l refl (sym a.answer ∙ i) a.registers a.state a.effect a.whole
-
-  pub at_state : (t : State) (y : Record) (u : S) (o : Option Turned) → x.state ≡ t → turns meaning wrote keys g n t x y s u o → Turning meaning wrote keys g n x y s u o
-  at_state t y u o e h = subst (λ (v : State). turns meaning wrote keys g n v x y s u o) (sym e) h

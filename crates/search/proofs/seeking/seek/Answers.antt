@@ -1,10 +1,7 @@
-use Rattle.std.proofs.Common.{suc, ◌<◌, arith, rules}
+use Rattle.std.proofs.Common.{◌<◌, arith, rules}
 use Rattle.std.proofs.lemmas.Result.{err_from_is_err_and}
 use Rattle.search.proofs.Seeks.{missed, tried}
 use Rattle.search.proofs.seeking.seek.Goals as goal
-
-pub loop-number-init : goal.loop-number-init
-loop-number-init g c = let e = c.bits-number.ensures.answer in (suc c.args.registers.now.b1.bits, omega arith, cc)
 
 pub loop-number-preserved : goal.loop-number-preserved
 loop-number-preserved g c =
@@ -12,9 +9,6 @@ loop-number-preserved g c =
     let k = tried _ _ _ _ _ _ c.loop-number.invariant.1 c.loop-number.invariant.2 c.loop-number-test.true p in
     let e = k.2 in
     (k.0, k.1, search rules)
-
-pub loop-number-smaller : goal.loop-number-smaller
-loop-number-smaller g c = let p : 0 < c.from-step.result = omega arith in omega arith
 
 pub returns-in_err-word : goal.returns-in_err-word
 returns-in_err-word g c =

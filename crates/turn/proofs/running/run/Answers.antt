@@ -1,9 +1,6 @@
 use Rattle.std.proofs.Common.{arith}
-use Rattle.turn.proofs.Ending.{at_length, begun, more, stopped}
+use Rattle.turn.proofs.Ending.{at_length, more, stopped}
 use Rattle.turn.proofs.running.run.Goals as goal
-
-pub loop-count-init : goal.loop-count-init
-loop-count-init g c = begun _ _ _ _ _ _ _ c.requires
 
 pub loop-count-preserved : goal.loop-count-preserved
 loop-count-preserved g c = more _ _ _ _ _ _ _ _ _ _ _ _ _ c.loop-count.invariant c.loop-count-test.true c.advance.ensures c.in_default.is
