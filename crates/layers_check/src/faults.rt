@@ -1,5 +1,5 @@
 use answers::{Fault, Layer};
 
-pub fn unmapped(address: u32) -> Fault {
+pub(crate) fn unmapped(address: u32) -> Fault {
     Fault::unmapped(Layer::Relocation, address)
 }
