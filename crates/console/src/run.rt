@@ -6,17 +6,26 @@ use crate::printout::Printout;
 use deck::Command;
 use layers::{Pair, Ranges};
 use session::{Memory, Pile};
-use std::io::{BufRead, Split};
-use std::iter::Zip;
-use std::ops::RangeFrom;
+use std::io::BufRead;
+use std::ops::RangeInclusive;
 use store::{Packed, Plain, Store};
 
-// The lines that are left, each with its number.
-type Lines<R> = Zip<Split<R>, RangeFrom<u64>>;
+// The lines that are left, and their numbers.
+#[derive(Drop)]
+struct Lines<R> {
+    reader: R,
+    numbers: RangeInclusive<u64>,
+    // one for all lines: a vector for each, as `split` makes it, takes longer than a short line itself
+    line: Vec<u8>,
+}
 
 pub(crate) fn run<R: BufRead + Drop>(rt: &HostRuntime, reader: R) -> Result<(), Failure> {
     let mut desk = Desk::new(Printout::new(rt));
-    let mut lines = reader.split(rt.alloc(), b'\n').zip(1..);
+    let mut lines = Lines {
+        reader,
+        numbers: 1..=u64::MAX,
+        line: Vec::new(rt.alloc()),
+    };
     let Some(pile) = obey_lines(&mut desk, &mut lines)? else {
         return Ok(());
     };
@@ -46,9 +55,18 @@ fn obey_lines<O: Obey, R: BufRead + Drop>(
     part: &mut O,
     lines: &mut Lines<R>,
 ) -> Result<Option<Pile>, Failure> {
-    for (text, number) in lines {
-        let text = text.map_err(|_| Failure::Unread)?;
-        match deck::read_line(part.printout().heap(), &text) {
+    let Lines {
+        reader,
+        numbers,
+        line,
+    } = lines;
+    for number in numbers {
+        line.clear();
+        if reader.read_until(b'\n', line).map_err(|_| Failure::Unread)? == 0 {
+            break;
+        }
+        let text = line.strip_suffix(b"\n").unwrap_or(line);
+        match deck::read_line(part.printout().heap(), text) {
             Ok(Some(command)) => match part.obey(command) {
                 Ok(None) => {}
                 Err(Failure::Misplaced(misplaced)) => part.printout().line(number, misplaced)?,

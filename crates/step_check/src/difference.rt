@@ -86,6 +86,10 @@ impl Differences {
         expected: &State,
         found: &State,
     ) -> Result<(), AllocError> {
+        // cores of a case that passes are equal, and this is quicker to see than word by word
+        if expected.core == found.core {
+            return Ok(());
+        }
         let words = expected.core.iter().zip(found.core.iter());
         for (address, (expected, found)) in words.enumerate() {
             self.compare(Part::Word(address), u64::from(*expected), u64::from(*found))?;
